@@ -1,0 +1,5 @@
+use Rattle.domains.proofs.Words.{bit_of_none}
+use Rattle.domains.proofs.drive_set.DriveSet.new.Goals as goal
+
+pub returns : goal.returns
+returns c = bit_of_none
