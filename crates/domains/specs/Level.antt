@@ -1,5 +1,5 @@
 -- The protection levels.
-use Rattle.std.specs.Prelude.{ℕ, List, [], ◌∷◌, Contains}
+use Rattle.std.specs.Prelude.{codes, ℕ, ◌==◌, Bool, ◌&&◌, if◌then◌else◌, List, [], ◌∷◌, map, Contains}
 
 -- a level: at most w data units in a group, m correction units, at most k units of a group on a node
 pub record Row : Type 0 where
@@ -7,20 +7,34 @@ pub record Row : Type 0 where
   pub m : ℕ
   pub k : ℕ
 
+-- the two are one level
+abbrev pub same_row : Row → Row → Bool
+same_row a b = ((a.w == b.w) && (a.m == b.m)) && (a.k == b.k)
+
 abbrev row : ℕ → ℕ → ℕ → Row
 row w m k = record { w = w; m = m; k = k }
 
 -- two copies
 abbrev pub two_copies : Row
-two_copies = record { w = 1; m = 1; k = 1 }
+two_copies = row 1 1 1
 
--- the table of levels: +1n to +4n, +2d:1n, +3d:1n, +4d:1n, +4d:2n, +3d:1n1d, 2x to 8x
-abbrev pub levels : List Row
-levels =
-    row 16 1 1 ∷ row 16 2 1 ∷ row 16 3 1 ∷ row 16 4 1
-    ∷ row 16 2 2 ∷ row 16 3 3 ∷ row 16 4 4 ∷ row 16 4 2 ∷ row 16 3 2
-    ∷ two_copies ∷ row 1 2 1 ∷ row 1 3 1 ∷ row 1 4 1 ∷ row 1 5 1 ∷ row 1 6 1 ∷ row 1 7 1 ∷ []
+-- the table of levels, with their names
+abbrev pub named_levels : List (Row × List ℕ)
+named_levels =
+    (row 16 1 1, codes "+1n") ∷ (row 16 2 1, codes "+2n") ∷ (row 16 3 1, codes "+3n") ∷ (row 16 4 1, codes "+4n")
+    ∷ (row 16 2 2, codes "+2d:1n") ∷ (row 16 3 3, codes "+3d:1n") ∷ (row 16 4 4, codes "+4d:1n")
+    ∷ (row 16 4 2, codes "+4d:2n") ∷ (row 16 3 2, codes "+3d:1n1d")
+    ∷ (two_copies, codes "2x") ∷ (row 1 2 1, codes "3x") ∷ (row 1 3 1, codes "4x") ∷ (row 1 4 1, codes "5x")
+    ∷ (row 1 5 1, codes "6x") ∷ (row 1 6 1, codes "7x") ∷ (row 1 7 1, codes "8x") ∷ []
 
 -- the level is a row of the table
 abbrev pub IsLevel : Row → Type 0
-IsLevel level = Contains levels level
+IsLevel level = Contains (map (λ (named : Row × List ℕ). named.0) named_levels) level
+
+abbrev name_in : List (Row × List ℕ) → Row → List ℕ
+name_in [] level = []
+name_in (named ∷ rest) level = if same_row named.0 level then named.1 else name_in rest level
+
+-- the name of a level
+abbrev pub level_name : Row → List ℕ
+level_name level = name_in named_levels level

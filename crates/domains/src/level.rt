@@ -1,7 +1,7 @@
 //! The requested protection level of a file.
 
 ghost use Rattle.std.specs.Prelude.{◌≡◌, ◌≤◌};
-ghost use Rattle.domains.specs.Level.{Row, IsLevel, two_copies};
+ghost use Rattle.domains.specs.Level.{Row, IsLevel, two_copies, level_name};
 
 use std::marker::Model;
 
@@ -32,6 +32,31 @@ impl Level {
         ensures { result ≡ two_copies }
     {
         Level { w: 1, m: 1, k: 1 }
+    }
+
+    /// Its name, the one spelling.
+    pub fn name(&self) -> &'static str
+        ensures { result.now ≡ level_name self.now }
+    {
+        match (self.w, self.m, self.k) {
+            (16, 1, 1) => "+1n",
+            (16, 2, 1) => "+2n",
+            (16, 3, 1) => "+3n",
+            (16, 4, 1) => "+4n",
+            (16, 2, 2) => "+2d:1n",
+            (16, 3, 3) => "+3d:1n",
+            (16, 4, 4) => "+4d:1n",
+            (16, 4, 2) => "+4d:2n",
+            (16, 3, 2) => "+3d:1n1d",
+            (1, 1, 1) => "2x",
+            (1, 2, 1) => "3x",
+            (1, 3, 1) => "4x",
+            (1, 4, 1) => "5x",
+            (1, 5, 1) => "6x",
+            (1, 6, 1) => "7x",
+            (1, 7, 1) => "8x",
+            _ => unreachable!(),
+        }
     }
 
     /// The most data units of a group: 1 for mirrors, else 16.
