@@ -1,0 +1,12 @@
+//! Scenarios: a cluster, its files, and what each actor does in turn.
+#![tactic(auto)]
+
+mod name;
+mod op;
+mod scenario;
+mod text;
+
+pub use name::Name;
+pub use op::{Op, Script};
+pub use scenario::{FileDecl, Scenario};
+pub use text::Text;
