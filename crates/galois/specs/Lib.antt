@@ -1,0 +1,4 @@
+pub mod Codeword
+pub mod Field
+pub mod Polynomial
+pub mod Tables

@@ -1,0 +1,12 @@
+-- Polynomials over the field, as the lists of their coefficients, the constant first.
+use Rattle.std.specs.Prelude.{ℕ, suc, List, [], ◌∷◌}
+use Rattle.galois.specs.Field.{field_sum, field_product, field_power}
+
+-- the sum, over these coefficients, of each times x to its degree, where the first has degree d
+unfoldable pub value_from : List ℕ → ℕ → ℕ → ℕ
+value_from [] d x = 0
+value_from (c ∷ cs) d x = field_sum (field_product c (field_power x d)) (value_from cs (suc d) x)
+
+-- the value at x of the polynomial with these coefficients
+unfoldable pub polynomial_value : List ℕ → ℕ → ℕ
+polynomial_value cs x = value_from cs 0 x

@@ -1,0 +1,6 @@
+//! The bytes of an inode.
+#![tactic(auto)]
+
+mod inode;
+
+pub use inode::Inode;
