@@ -14,12 +14,13 @@ line_feed = 10 ∷ []
 unfoldable pub number_line : List ℕ → ℕ → List ℕ
 number_line key n = key ++ codes " = " ++ decimal n ++ line_feed
 
+-- a line that gives a text
+unfoldable pub text_line : List ℕ → List ℕ → List ℕ
+text_line key text = key ++ codes " = \"" ++ text ++ codes "\"" ++ line_feed
+
 -- the lines of a file's table
 unfoldable pub file_lines : FileDecl → List ℕ
-file_lines f =
-    codes "[[file]]" ++ line_feed
-    ++ codes "name = \"" ++ f.name ++ codes "\"" ++ line_feed
-    ++ codes "level = \"" ++ level_name f.level ++ codes "\"" ++ line_feed
+file_lines f = codes "[[file]]" ++ line_feed ++ text_line (codes "name") f.name ++ text_line (codes "level") (level_name f.level)
 
 -- the line of an operation
 unfoldable pub op_line : List FileDecl → Op → List ℕ

@@ -1,11 +1,13 @@
 //! Scenarios: a cluster, its files, and what each actor does in turn.
 #![tactic(auto)]
 
+mod canonical;
 mod name;
 mod op;
 mod scenario;
 mod text;
 
+pub use canonical::{print, write_op, write_scenario};
 pub use name::Name;
 pub use op::{Op, Script};
 pub use scenario::{FileDecl, Scenario};
