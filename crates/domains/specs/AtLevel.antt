@@ -14,14 +14,14 @@ AreApart (s ∷ ss) = AllByRecursion (λ (t : Spot). same_drive s.drive t.drive 
 abbrev pub units_on : ℕ → List Spot → ℕ
 units_on node places = count_by (λ (s : Spot). s.drive.node == node) places
 
--- the group has at most w data units and the level's correction units, on different drives, at most k on each node
+-- the group has at most w data units and the level's correction units, on different drives, at most k on the node of each
 pub record AtLevel (group : Group) (level : Row) : Type 0 where
   pub some : 1 ≤ group.n
   pub narrow : group.n ≤ level.w
   pub corrected : group.m ≡ level.m
   pub whole : length group.places ≡ group.n + group.m
   pub apart : AreApart group.places
-  pub spread : (node : ℕ) → units_on node group.places ≤ level.k
+  pub spread : AllByRecursion (λ (s : Spot). units_on s.drive.node group.places ≤ level.k) group.places
 
 -- the group is a mirror at the level, as an inode is whatever its length
 pub record InodeAt (group : Group) (level : Row) : Type 0 where

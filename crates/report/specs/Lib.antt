@@ -1,0 +1,6 @@
+pub mod Words
+pub mod BoardLines
+pub mod FileLines
+pub mod Printed
+pub mod Script
+pub mod Legal
