@@ -2,5 +2,7 @@
 #![tactic(auto)]
 
 mod inode;
+mod writer;
 
 pub use inode::Inode;
+pub use writer::write;
