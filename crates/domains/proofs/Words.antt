@@ -1,5 +1,5 @@
 -- A set of drives after one drive is added or removed.
-use Rattle.std.proofs.Common.{◌≡◌, ◌≢◌, ℕ, ◌+◌, ◌-◌, ◌*◌, ◌%◌, ◌^◌, ◌<◌, ◌≤◌, false, not, ◌&&◌, ◌||◌, List, length, set, get_or, eqb, bit_and, bit_or, w16, replicate, cond, ltb, zero, suc, refl, sym, ap, ◌∙◌, inl, inr, arith}
+use Rattle.std.proofs.Common.{◌≡◌, ◌≢◌, ℕ, ◌+◌, ◌-◌, ◌*◌, ◌%◌, ◌^◌, ◌<◌, ◌≤◌, Bool, false, not, ◌&&◌, ◌||◌, List, length, set, get_or, eqb, leb, bit_and, bit_or, w16, replicate, cond, ltb, zero, suc, refl, sym, ap, ◌∙◌, inl, inr, arith}
 use Rattle.std.specs.Int.{bit_at}
 use Rattle.std.proofs.lemmas.Bool.{cases_eq, cases_lt, eq-eqb, ne_eqb, and_from, and_left, and_right, cond-true, cond-false, lt-ltb, le-ltb, le-leb, lt-leb}
 use Rattle.std.proofs.lemmas.List.{get_or-set_other}
@@ -109,9 +109,9 @@ whole_more shape n words within whole j =
           ]
     ]
 
--- the drives of the cluster are in the words of whole nodes
-pub bit_of_whole : (shape : Cluster) (words : List ℕ) (d : Drive) → IsDrive d → AreWhole shape shape.nodes words → eqb (bit_of words d) 1 ≡ is_of shape d
-bit_of_whole shape words d of_d whole =
+bit_of_counted : (shape : Cluster) (words : List ℕ) (d : Drive) → IsDrive d → AreWhole shape shape.nodes words
+    → eqb (bit_of words d) 1 ≡ leb d.node shape.nodes && leb d.drive shape.drives
+bit_of_counted shape words d of_d whole =
     let all : ℕ = 2 ^ shape.drives - 1 in
     elim (cases_lt shape.nodes d.node) [
       | inl past ↦
@@ -128,3 +128,13 @@ bit_of_whole shape words d of_d whole =
                 ∙ sym (and_from _ _ (le-leb d.node shape.nodes within) (le-leb d.drive shape.drives there))
           ]
     ]
+
+-- a drive is of the cluster where its numbers are not above the cluster's
+pub is_of-drive : (shape : Cluster) (d : Drive) → IsDrive d → is_of shape d ≡ leb d.node shape.nodes && leb d.drive shape.drives
+is_of-drive shape d of_d =
+    let counted : Bool = leb d.node shape.nodes && leb d.drive shape.drives in
+    ap (λ b. b && counted) (and_from _ _ (le-leb 1 d.node of_d.some_node) (le-leb 1 d.drive of_d.some_drive))
+
+-- the drives of the cluster are in the words of whole nodes
+pub bit_of_whole : (shape : Cluster) (words : List ℕ) (d : Drive) → IsDrive d → AreWhole shape shape.nodes words → eqb (bit_of words d) 1 ≡ is_of shape d
+bit_of_whole shape words d of_d whole = bit_of_counted shape words d of_d whole ∙ sym (is_of-drive shape d of_d)

@@ -23,4 +23,4 @@ pub record IsCluster (c : Cluster) : Type 0 where
 
 -- the drive is one of the cluster
 abbrev pub is_of : Cluster → Drive → Bool
-is_of c d = nat_le d.node c.nodes && nat_le d.drive c.drives
+is_of c d = (nat_le 1 d.node && nat_le 1 d.drive) && (nat_le d.node c.nodes && nat_le d.drive c.drives)

@@ -34,7 +34,8 @@ impl DriveSet {
     }
 
     pub fn has(&self, drive: DriveId) -> bool
-        ensures { result ≡ has self.now drive }
+        ensures value { result ≡ has self.now drive }
+        ensures within { IsDrive drive }
     {
         self.nodes[usize::from(drive.node() - 1)] >> (drive.drive() - 1) & 1 == 1
     }

@@ -1,1 +1,9 @@
 mod FirstScenario
+mod Orders
+mod Rooms
+mod Drawing
+mod Growth
+mod Turns
+mod InodeLengths
+mod Rewriting
+mod Ranges

@@ -6,3 +6,12 @@ pub mod Writing
 pub mod Refusals
 pub mod Step
 pub mod Stored
+pub mod Slots
+pub mod Plain
+pub mod Mirrors
+pub mod StockInside
+pub mod StockWords
+pub mod Moments
+pub mod LiveMirrors
+pub mod FileInside
+pub mod Drives

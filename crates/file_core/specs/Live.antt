@@ -5,25 +5,25 @@ use Rattle.domains.specs.Drive.{Drive, Spot}
 use Rattle.domains.specs.declared.group.Group.{Group}
 use Rattle.domains.specs.declared.group.Lost.{Lost}
 use Rattle.inode_codec.specs.Inode.{units_for}
-use Rattle.file_core.specs.World.{World}
+use Rattle.file_core.specs.World.{Moment}
 use Rattle.file_core.specs.Layout.{Layout, Unit_, group_list}
 
 -- an entry of the log says that the unit is dead
 abbrev pub is_dead : Layout → ℕ → ℕ → Bool
 is_dead l generation position = list_any (λ (u : Unit_). (u.generation == generation) && (u.position == position)) l.dead
 
--- the unit counts: its drive is up after so many entries of the board, and no entry says that it is dead
-abbrev pub is_live : World → Layout → ℕ → ℕ → ℕ → Spot → Bool
-is_live world l epoch generation position spot = world.up epoch spot.drive && not (is_dead l generation position)
+-- the unit counts: its drive is up, and no entry says that it is dead
+abbrev pub is_live : Moment → Layout → ℕ → ℕ → Spot → Bool
+is_live now l generation position spot = now.up spot.drive && not (is_dead l generation position)
 
-abbrev live_from : List Spot → ℕ → World → Layout → ℕ → ℕ → ℕ
-live_from [] position world l epoch generation = 0
-live_from (s ∷ ss) position world l epoch generation =
-    (if is_live world l epoch generation position s then 1 else 0) + live_from ss (position + 1) world l epoch generation
+abbrev live_from : List Spot → ℕ → Moment → Layout → ℕ → ℕ
+live_from [] position now l generation = 0
+live_from (s ∷ ss) position now l generation =
+    (if is_live now l generation position s then 1 else 0) + live_from ss (position + 1) now l generation
 
 -- how many units of the group count
-abbrev pub live_units : World → Layout → ℕ → Group → ℕ
-live_units world l epoch g = live_from g.places 0 world l epoch g.generation
+abbrev pub live_units : Moment → Layout → Group → ℕ
+live_units now l g = live_from g.places 0 now l g.generation
 
 -- what is asked of a file: the bytes of a range; to write a range, where new groups have at most so many data units; one group
 pub data Part : Type 0 where
@@ -32,7 +32,7 @@ pub data Part : Type 0 where
   one : ℕ → Part
 
 -- the group that begins with this unit holds a byte of the range that ends before the end of the file
-abbrev holds_byte : ℕ → ℕ → ℕ → ℕ → ℕ → ℕ → Bool
+abbrev pub holds_byte : ℕ → ℕ → ℕ → ℕ → ℕ → ℕ → Bool
 holds_byte unit size offset len start n =
     let stop : ℕ = min (offset + len) size in
     nat_lt offset stop && (nat_lt (start * unit) stop && nat_lt offset ((start + n) * unit))
@@ -75,17 +75,17 @@ needed_of_map unit l (one generation) = groups_with l.groups 0 (λ start g is_la
 abbrev pub needed_groups : ℕ → Layout → Part → List Group
 needed_groups unit l part = group_list l.inode ++ needed_of_map unit l part
 
-abbrev pub short_in : List Group → World → Layout → ℕ → Option Lost
-short_in [] world l epoch = None
-short_in (g ∷ gs) world l epoch =
-    if nat_lt (live_units world l epoch g) g.n
-    then Some (record { generation = g.generation; have = live_units world l epoch g; need = g.n })
-    else short_in gs world l epoch
+abbrev pub short_in : List Group → Moment → Layout → Option Lost
+short_in [] now l = None
+short_in (g ∷ gs) now l =
+    if nat_lt (live_units now l g) g.n
+    then Some (record { generation = g.generation; have = live_units now l g; need = g.n })
+    else short_in gs now l
 
 -- the first needed group that has fewer live units than data units
-abbrev pub first_short : World → Layout → ℕ → Part → Option Lost
-first_short world l epoch part = short_in (needed_groups world.shape.unit l part) world l epoch
+abbrev pub first_short : Moment → Layout → Part → Option Lost
+first_short now l part = short_in (needed_groups now.shape.unit l part) now l
 
 -- each needed group has enough live units
-abbrev pub IsReadable : World → Layout → ℕ → Part → Type 0
-IsReadable world l epoch part = first_short world l epoch part ≡ None
+abbrev pub IsReadable : Moment → Layout → Part → Type 0
+IsReadable now l part = first_short now l part ≡ None

@@ -6,7 +6,7 @@ use Rattle.domains.specs.declared.group.Group.{Group}
 use Rattle.galois.specs.Codeword.{IsCodeword, unit_at}
 use Rattle.inode_codec.specs.Inode.{IsInode, inode_bytes}
 use Rattle.inode_codec.specs.declared.inode.Inode.{Inode}
-use Rattle.file_core.specs.World.{World}
+use Rattle.file_core.specs.World.{Moment}
 use Rattle.file_core.specs.Layout.{Layout, group_list, all_groups}
 use Rattle.file_core.specs.Live.{is_live}
 
@@ -48,21 +48,21 @@ pub record IsStored (held : Spot → Option (List ℕ)) (unit : ℕ) (l : Layout
   pub zeros : ℕ
   pub groups : HoldsGroups l.groups (bytes ++ replicate zeros 0) unit held
 
-abbrev AgreeOnPlaces : List Spot → ℕ → World → Layout → ℕ → ℕ → (Spot → List ℕ) → (Spot → List ℕ) → Type 0
-AgreeOnPlaces [] position world l epoch generation held other = Unit {0}
-AgreeOnPlaces (s ∷ ss) position world l epoch generation held other =
-    (is_live world l epoch generation position s ≡ true → other s ≡ held s)
-    × AgreeOnPlaces ss (position + 1) world l epoch generation held other
+abbrev AgreeOnPlaces : List Spot → ℕ → Moment → Layout → ℕ → (Spot → List ℕ) → (Spot → List ℕ) → Type 0
+AgreeOnPlaces [] position now l generation held other = Unit {0}
+AgreeOnPlaces (s ∷ ss) position now l generation held other =
+    (is_live now l generation position s ≡ true → other s ≡ held s)
+    × AgreeOnPlaces ss (position + 1) now l generation held other
 
 -- the places hold the same wherever a live unit of the layout stands
-abbrev pub AgreeOnLive : World → Layout → ℕ → (Spot → List ℕ) → (Spot → List ℕ) → Type 0
-AgreeOnLive world l epoch held other =
-    AllByRecursion (λ (g : Group). AgreeOnPlaces g.places 0 world l epoch g.generation held other) (all_groups l)
+abbrev pub AgreeOnLive : Moment → Layout → (Spot → List ℕ) → (Spot → List ℕ) → Type 0
+AgreeOnLive now l held other =
+    AllByRecursion (λ (g : Group). AgreeOnPlaces g.places 0 now l g.generation held other) (all_groups l)
 
 -- the live units leave one file: any other that is stored with the same inode group, and agrees on the units that are live,
 -- has the same groups, size and bytes
-abbrev pub IsDetermined : World → (Spot → List ℕ) → Layout → ℕ → List ℕ → Type 0
-IsDetermined world held l epoch bytes =
+abbrev pub IsDetermined : Moment → (Spot → List ℕ) → Layout → List ℕ → Type 0
+IsDetermined now held l bytes =
     (other : Spot → List ℕ) (found : Layout) (shown : List ℕ) → found.inode ≡ l.inode
-    → IsStored (λ s. Some (other s)) world.shape.unit found shown → AgreeOnLive world l epoch held other
+    → IsStored (λ s. Some (other s)) now.shape.unit found shown → AgreeOnLive now l held other
     → (found.groups ≡ l.groups) × (found.size ≡ l.size) × (shown ≡ bytes)

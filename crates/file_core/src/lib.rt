@@ -2,5 +2,6 @@
 #![tactic(auto)]
 
 mod entry;
+pub mod plain;
 
 pub use entry::{Change, FileEntry, FileEvent, FileLog, Refused, Told};

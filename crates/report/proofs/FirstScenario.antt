@@ -19,7 +19,7 @@ use Rattle.report.specs.Printed.{printed, board_block, file_block}
 use Rattle.std.specs.List.{AllByRecursion}
 use Rattle.file_core.specs.Step.{IsLegalLog}
 use Rattle.report.specs.Script.{all_told, FitsScript, file_calls, numbers_where, is_for_file}
-use Rattle.report.specs.Legal.{world_of}
+use Rattle.file_core.specs.World.{world_of}
 use Rattle.report.specs.declared.logs.Logs.{Logs}
 
 abbrev scenario : Scenario

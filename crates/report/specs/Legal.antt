@@ -1,28 +1,15 @@
 -- What makes the logs of a run legal.
-use Rattle.std.specs.Prelude.{◌≡◌, ℕ, ◌+◌, List, [], ◌∷◌, ◌++◌, length, take}
+use Rattle.std.specs.Prelude.{◌≡◌, ℕ, ◌+◌, List, [], ◌∷◌, ◌++◌}
 use Rattle.std.specs.List.{AllByRecursion}
-use Rattle.domains.specs.Drive.{Drive}
-use Rattle.domains.specs.Cluster.{Cluster}
-use Rattle.domains.specs.Level.{Row}
 use Rattle.scenarios.specs.declared.scenario.FileDecl.{FileDecl}
 use Rattle.scenarios.specs.declared.scenario.Scenario.{Scenario}
-use Rattle.board_log.specs.Board.{state_after, up_after, is_gone, IsBoardStep}
+use Rattle.board_log.specs.Board.{IsBoardStep}
 use Rattle.board_log.specs.declared.entry.BoardEntry.{BoardEntry}
-use Rattle.file_core.specs.World.{World}
+use Rattle.file_core.specs.World.{world_of}
 use Rattle.file_core.specs.Step.{IsLegalLog}
 use Rattle.file_core.specs.declared.entry.FileEntry.{FileEntry}
 use Rattle.report.specs.Script.{all_told, FitsScript, FitsOrder, FollowsScript, EpochsGoOn}
 use Rattle.report.specs.declared.logs.Logs.{Logs}
-
--- what the history of a file with this level stands in, beside this log of the board
-abbrev pub world_of : Cluster → List BoardEntry → Row → World
-world_of shape board level = record {
-  level = level;
-  shape = shape;
-  epochs = length board;
-  up = up_after shape board;
-  gone = λ (epoch : ℕ) (d : Drive). is_gone (state_after (take epoch board) d);
-}
 
 -- each of these orders is legal after those before it, and is an operation of the script
 abbrev pub AreLegalOrders : List BoardEntry → List BoardEntry → Scenario → Type 0

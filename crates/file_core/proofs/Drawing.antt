@@ -1,0 +1,119 @@
+-- What is known of slots that were taken from the free ones.
+use Rattle.std.proofs.Common.{◌≡◌, ◌≢◌, ℕ, ◌+◌, ◌≤◌, Bool, true, false, not, ◌&&◌, cond, List, length, count_by, Option, Some, None, IsSome, is_some, is_none, eqb, refl, sym, ap, subst, ◌∙◌, arith}
+use Rattle.std.proofs.lemmas.Bool.{and_parts, eqb-true, ne_eqb, and_left, true≢false}
+use Rattle.flex_io.specs.declared.raw_place.RawPlace.{RawPlace}
+use Rattle.domains.specs.Drive.{Drive, Spot, IsDrive, same_drive}
+use Rattle.domains.specs.Cluster.{Cluster}
+use Rattle.domains.specs.DriveSet.{has}
+use Rattle.domains.specs.declared.drive_set.DriveSet.{DriveSet}
+use Rattle.board_log.specs.Board.{up_after}
+use Rattle.board_log.specs.declared.entry.BoardEntry.{BoardEntry}
+use Rattle.file_core.specs.Slots.{spot_of, is_place_of, one_if, count_at, AreOf, Tell}
+use Rattle.file_core.specs.Plain.{Shelves}
+use Rattle.file_core.specs.Mirrors.{IsMirror, SamePlaces, TellStill, AreCopies}
+use Rattle.file_core.specs.StockWords.{Draws}
+use Rattle.file_core.specs.Drives.{IsUpElsewhere}
+use Rattle.file_core.specs.declared.plain.pair.Pair.{Pair}
+
+-- drives with the same numbers are one
+pub same_drive-eq : (a b : Drive) → same_drive a b ≡ true → a ≡ b
+same_drive-eq a b h =
+    let both = and_parts _ _ h in
+    ap (λ (n : ℕ). let made : Drive = record { node = n; drive = a.drive } in made) (eqb-true a.node b.node both.0)
+    ∙ ap (λ (n : ℕ). let made : Drive = record { node = b.node; drive = n } in made) (eqb-true a.drive b.drive both.1)
+
+-- what is on one drive is on no drive of another node
+pub other_drive : (a b s : Drive) → same_drive a s ≡ true → b.node ≢ a.node → same_drive b s ≡ false
+other_drive a b s on apart =
+    let e : a ≡ s = same_drive-eq a s on in
+    and_left _ _ (ne_eqb b.node s.node (λ h. apart (h ∙ sym (ap (λ (d : Drive). d.node) e))))
+
+none_left : (b : Bool) (before after : ℕ) → before ≡ 0 → before ≡ after + one_if (not b) → (b ≡ true) × (after ≡ 0)
+none_left true before after none moved = (refl, omega arith)
+none_left false before after none moved = absurd (omega arith)
+
+some_told : (o : Option (List ℕ)) (before after : ℕ) → before ≡ 0 → before ≡ after + one_if (is_none o) → IsSome o × (after ≡ 0)
+some_told None before after none moved = absurd (omega arith)
+some_told (Some bytes) before after none moved = (refl, omega arith)
+
+module _ {S : Type 0} (place_of : S → RawPlace) (content : S → Option (List ℕ)) where
+  -- the slot is gone from the list, and all others are there still
+  abbrev pub Leaves : List S → List S → S → Type 0
+  Leaves before after x = (p : S → Bool) → count_by p before ≡ count_by p after + one_if (p x)
+
+  pub left_of : (shape : Cluster) (before after : List S) (x : S) → Leaves before after x → AreOf place_of shape before
+      → (is_place_of shape (spot_of (place_of x)) ≡ true) × AreOf place_of shape after
+  left_of shape before after x moved all =
+      none_left (is_place_of shape (spot_of (place_of x))) _ _ all (moved (λ y. not (is_place_of shape (spot_of (place_of y)))))
+
+  pub left_told : (before after : List S) (x : S) → Leaves before after x → Tell content before → IsSome (content x) × Tell content after
+  left_told before after x moved all = some_told (content x) _ _ all (moved (λ y. is_none (content y)))
+
+  -- the two slots were drawn as a mirror
+  pub draws : (shape : Cluster) (board : List BoardEntry) (up : DriveSet) (free between after retired : List S) (room more spare : ℕ)
+      (one two : Drive) (x y : S) (pair : Pair S) (bytes : List ℕ)
+      → ((d : Drive) → IsDrive d → has up d ≡ up_after shape board (length board) d) → AreOf place_of shape free
+      → IsUpElsewhere shape (has up) 0 one → IsUpElsewhere shape (has up) one.node two
+      → same_drive one (spot_of (place_of x)).drive ≡ true → same_drive two (spot_of (place_of y)).drive ≡ true
+      → Leaves free between x → Leaves between after y
+      → SamePlaces place_of (record { first = x; second = y }) pair → TellStill content (record { first = x; second = y }) pair
+      → AreCopies content pair bytes → more ≡ room + 2
+      → Draws place_of content (record { shape = shape; board = board; free = free; retired = retired; room = room; spare = spare })
+      (record { shape = shape; board = board; free = after; retired = retired; room = more; spare = spare }) bytes pair
+  draws shape board up free between after retired room more spare one two x y pair bytes up_set all up_one up_two on_one on_two moved moved_too same still copies rooms =
+      let place_x : spot_of (place_of pair.first) ≡ spot_of (place_of x) = ap spot_of same.first in
+      let place_y : spot_of (place_of pair.second) ≡ spot_of (place_of y) = ap spot_of same.second in
+      let is_one : one ≡ (spot_of (place_of x)).drive = same_drive-eq one _ on_one in
+      let is_two : two ≡ (spot_of (place_of y)).drive = same_drive-eq two _ on_two in
+      let of_x = left_of shape free between x moved all in
+      let of_y = left_of shape between after y moved_too of_x.1 in
+      record {
+        mirror = record {
+          first = ap (is_place_of shape) place_x ∙ of_x.0;
+          second = ap (is_place_of shape) place_y ∙ of_y.0;
+          apart = λ h. up_two.apart (ap (λ (d : Drive). d.node) is_two ∙ sym (ap (λ (r : RawPlace). r.node) same.second)
+              ∙ sym h ∙ ap (λ (r : RawPlace). r.node) same.first ∙ sym (ap (λ (d : Drive). d.node) is_one));
+        };
+        first_up =
+            ap (λ (s : Spot). up_after shape board (length board) s.drive) place_x
+            ∙ sym (ap (up_after shape board (length board)) is_one) ∙ sym (up_set one up_one.is) ∙ up_one.up_there;
+        second_up =
+            ap (λ (s : Spot). up_after shape board (length board) s.drive) place_y
+            ∙ sym (ap (up_after shape board (length board)) is_two) ∙ sym (up_set two up_two.is) ∙ up_two.up_there;
+        copies = copies;
+        moved = λ p.
+            let px : one_if (p (spot_of (place_of pair.first))) ≡ one_if (p (spot_of (place_of x))) = ap (λ s. one_if (p s)) place_x in
+            let py : one_if (p (spot_of (place_of pair.second))) ≡ one_if (p (spot_of (place_of y))) = ap (λ s. one_if (p s)) place_y in
+            let mx = moved (λ z. p (spot_of (place_of z))) in
+            let my = moved_too (λ z. p (spot_of (place_of z))) in
+            omega (arith, px, py, mx, my);
+        tell = λ told.
+            let told_x = left_told free between x moved told in
+            let told_y = left_told between after y moved_too told_x.1 in
+            (told_y.1, still.first told_x.0, still.second told_y.0);
+        room = rooms;
+      }
+
+  -- a drive of another node has the free slots that it had
+  pub second_there : (free between : List S) (one two : Drive) (x : S) → Leaves free between x
+      → same_drive one (spot_of (place_of x)).drive ≡ true → two.node ≢ one.node
+      → 1 ≤ count_at place_of (λ s. same_drive two s.drive) free → 1 ≤ count_at place_of (λ s. same_drive two s.drive) between
+  second_there free between one two x moved on apart there =
+      let m = moved (λ y. same_drive two (spot_of (place_of y)).drive) in
+      let off : one_if (same_drive two (spot_of (place_of x)).drive) ≡ 0 =
+      ap one_if (other_drive one two (spot_of (place_of x)).drive on apart) in
+      omega (arith, m, off, there)
+
+  -- two slots that were taken and put back stand among the free ones as before
+  pub restored : (free between after put : List S) (x y : S) (pair : Pair S) → Leaves free between x → Leaves between after y
+      → SamePlaces place_of (record { first = x; second = y }) pair
+      → ((p : S → Bool) → count_by p put ≡ count_by p after + (one_if (p pair.first) + one_if (p pair.second)))
+      → (p : Spot → Bool) → count_at place_of p put ≡ count_at place_of p free
+  restored free between after put x y pair moved moved_too same back p =
+      let q : S → Bool = λ z. p (spot_of (place_of z)) in
+      let px : one_if (q pair.first) ≡ one_if (q x) = ap (λ (r : RawPlace). one_if (p (spot_of r))) same.first in
+      let py : one_if (q pair.second) ≡ one_if (q y) = ap (λ (r : RawPlace). one_if (p (spot_of r))) same.second in
+      let mx = moved q in
+      let my = moved_too q in
+      let mb = back q in
+      omega (arith, px, py, mx, my, mb)

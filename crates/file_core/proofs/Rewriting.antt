@@ -1,0 +1,356 @@
+-- What is true after the write of a plain file.
+use Rattle.std.proofs.Common.{◌≡◌, ◌≢◌, ℕ, zero, suc, ◌+◌, ◌-◌, ◌*◌, ◌/◌, ◌<◌, ◌≤◌, min, max, Bool, true, false, not, ◌&&◌, ◌||◌, cond, leb, List, [], ◌∷◌, ◌++◌, length, replicate, take, drop, count_by, Option, Some, None, IsSome, is_none, eqb, refl, sym, ap, subst, ◌∙◌, inl, inr, arith, append-nil, lit≤}
+use Rattle.std.proofs.Math.Nat.{div-eq_of_lt}
+use Rattle.std.proofs.Math.Seq.{drop-nil}
+use Rattle.std.proofs.lemmas.Bool.{cond-true, le-leb, or_from, eq-eqb, true≢false, false≢true}
+use Rattle.std.specs.List.{AllByRecursion}
+use Rattle.flex_io.specs.declared.raw_place.RawPlace.{RawPlace}
+use Rattle.domains.specs.Drive.{Drive, Spot, IsDrive, same_drive, same_spot}
+use Rattle.domains.specs.Cluster.{Cluster, IsCluster}
+use Rattle.domains.specs.Level.{two_copies}
+use Rattle.domains.specs.Room.{room_of, width_of}
+use Rattle.domains.specs.declared.by.By.{By}
+use Rattle.domains.specs.declared.group.Group.{Group}
+use Rattle.board_log.specs.Board.{up_after}
+use Rattle.board_log.specs.declared.entry.BoardEntry.{BoardEntry}
+use Rattle.inode_codec.specs.Inode.{inode_bytes}
+use Rattle.file_core.specs.Moments.{last_moment}
+use Rattle.file_core.specs.Bytes.{bytes_after, bytes_after_event, overwrite}
+use Rattle.file_core.specs.Layout.{Layout, layout_after, layout_from, layout_after_event, empty_layout, all_groups, group_list, is_taken}
+use Rattle.file_core.specs.Refusals.{width_at, is_usable, MayWrite, IsRefusal}
+use Rattle.file_core.specs.Live.{short_in}
+use Rattle.file_core.specs.declared.entry.Refused.TheVariants as refused
+use Rattle.domains.specs.declared.group.Lost.{Lost}
+use Rattle.file_core.specs.Writing.{chunk_count}
+use Rattle.file_core.specs.Step.{IsNewPlace, Writes, IsEvent}
+use Rattle.file_core.specs.Slots.{spot_of, is_place_of, one_if, count_at, Tell}
+use Rattle.file_core.specs.Plain.{Shelves, Holding, Plays, AllTell, slots_for, count_all, free_on, OneEach, HasRoom, IsUnwritten, is_placing}
+use Rattle.file_core.specs.Mirrors.{slots_of, mirror_of, IsMirror, AreCopies}
+use Rattle.file_core.specs.StockWords.{Draws, SameFree, SameBeside, Draws2, Releases}
+use Rattle.file_core.specs.FileInside.{is_present, holding, layout_of, inode_text, HoldsFile, KeepsFile, Played, Moves, MayRelease}
+use Rattle.file_core.specs.declared.entry.Change.{Change}
+use Rattle.file_core.specs.declared.entry.FileEvent.{FileEvent}
+use Rattle.file_core.specs.declared.entry.FileEvent.TheVariants as event
+use Rattle.file_core.specs.declared.entry.Told.{Told}
+use Rattle.file_core.specs.declared.plain.op.PlainOp.TheVariants as plain
+use Rattle.file_core.specs.declared.plain.pair.Pair.{Pair}
+use Rattle.file_core.specs.declared.plain.standing.Standing.{Standing}
+use Rattle.file_core.specs.declared.plain.standing.Standing.TheVariants.{Absent, Empty, Written}
+use Rattle.file_core.proofs.Growth.{layout_from-push, bytes_from-push}
+use Rattle.file_core.proofs.Orders.{same_drive-refl}
+use Rattle.file_core.proofs.Rooms.{room_of_same}
+use Rattle.file_core.proofs.Turns.{and-true, apart_once, count_pair, tell_pair, mirror_level, new_place, apart_spots}
+
+-- an event that puts no group into the map leaves an empty map
+no_groups_after : (e : FileEvent) (l : Layout) → is_placing e ≡ false → l.groups ≡ [] → (layout_after_event two_copies e l).groups ≡ []
+no_groups_after (event.Created inode) l off none = refl
+no_groups_after event.Deleted l off none = refl
+no_groups_after (event.Written offset len size change) l off none = absurd (true≢false off)
+no_groups_after (event.Shown offset len bytes) l off none = none
+no_groups_after (event.LevelSet level) l off none = none
+no_groups_after (event.Placed job change) l off none = absurd (true≢false off)
+no_groups_after (event.Dead generation position) l off none = none
+no_groups_after (event.Barred job drives) l off none = none
+no_groups_after (event.Cleared job drives) l off none = none
+no_groups_after (event.Marked job count) l off none = none
+no_groups_after (event.Refused why) l off none = none
+
+no_groups_from : (log : List Told) (l : Layout) → IsUnwritten log → l.groups ≡ [] → (layout_from log two_copies l).groups ≡ []
+no_groups_from [] l off none = none
+no_groups_from (t ∷ ts) l off none = no_groups_from ts (layout_after_event two_copies t.entry.event l) off.1 (no_groups_after t.entry.event l off.0 none)
+
+-- a log without an accepted write says an empty map
+pub no_groups : (log : List Told) → IsUnwritten log → (layout_after two_copies log).groups ≡ []
+no_groups log off = no_groups_from log (empty_layout two_copies) off refl
+
+zero_false : (b : Bool) → one_if b ≡ 0 → b ≡ false
+zero_false false h = refl
+zero_false true h = absurd (omega (arith, h))
+
+same_spot-refl : (s : Spot) → same_spot s s ≡ true
+same_spot-refl s = ap (λ b. b && eqb s.slot s.slot) (same_drive-refl s.drive) ∙ eq-eqb s.slot s.slot refl
+
+overwrite-empty : (bytes : List ℕ) → overwrite [] 0 bytes ≡ bytes
+overwrite-empty bytes = ap (λ (l : List ℕ). bytes ++ l) (drop-nil (0 + length bytes)) ∙ append-nil bytes
+
+-- a write of at most a unit reaches no second unit
+one_unit : (len unit : ℕ) → 1 ≤ len → len ≤ unit → (0 + len - 1) / unit ≡ 0
+one_unit len unit some fits = div-eq_of_lt (omega arith)
+
+width_one : (room : ℕ) → 2 ≤ room → cond (leb 2 room) (Some (min 1 (room - 1))) None ≡ Some 1
+width_one room enough =
+    let one : min 1 (room - 1) ≡ 1 = omega arith in
+    cond-true (leb 2 room) (Some (min 1 (room - 1))) None (le-leb 2 room enough) ∙ ap Some one
+
+module _ {S : Type 0} (place_of : S → RawPlace) (content : S → Option (List ℕ)) where
+  -- a standing that is present and whose map is empty has an inode alone
+  pub has_inode_alone : (shape : Cluster) (log : List Told) (standing : Standing S) → KeepsFile place_of content shape log standing
+      → is_present standing ≡ true → IsUnwritten log → (inode : Pair S) × (standing ≡ Empty inode)
+  has_inode_alone shape log Absent inside present off = absurd (false≢true present)
+  has_inode_alone shape log (Empty inode) inside present off = (inode, refl)
+  has_inode_alone shape log (Written size units inode) inside present off =
+      absurd (not_empty (sym (ap (λ (l : Layout). l.groups) inside.layout) ∙ no_groups log off))
+    where
+      not_empty : (mirror_of place_of 1 units ∷ []) ≡ [] → ⊥
+      not_empty h = cc
+
+  -- the first draw leaves room for the second
+  pub room_left : (stock between : Shelves S) (bytes : List ℕ) (pair : Pair S) → Draws place_of content stock between bytes pair
+      → SameBeside stock between → HasRoom place_of 2 stock → HasRoom place_of 1 between
+  room_left stock between bytes pair draws beside room d of_d up =
+      let up_before : up_after stock.shape stock.board (length stock.board) d ≡ true =
+      sym (ap (λ (c : Cluster). up_after c stock.board (length stock.board) d) beside.shape)
+      ∙ sym (ap (λ (b : List BoardEntry). up_after between.shape b (length b) d) beside.board) ∙ up in
+      let enough = room d of_d up_before in
+      let moved = draws.moved (λ s. same_drive d s.drive) in
+      let once = apart_once d (spot_of (place_of pair.first)).drive (spot_of (place_of pair.second)).drive draws.mirror.apart in
+      omega (arith, enough, moved, once)
+
+  -- slots that were drawn and given back stand as before
+  pub given_back : (stock between later back : Shelves S) (bytes : List ℕ) (pair : Pair S) → Draws place_of content stock between bytes pair
+      → SameFree place_of between later
+      → ((p : S → Bool) → count_by p back.free ≡ count_by p later.free + (one_if (p pair.first) + one_if (p pair.second)))
+      → SameFree place_of stock back
+  given_back stock between later back bytes pair draws same returned p =
+      let moved = draws.moved p in
+      let kept = same p in
+      let put = returned (λ x. p (spot_of (place_of x))) in
+      omega (arith, moved, kept, put)
+
+  -- how many of the slots in question stand at the place of this one
+  abbrev hits : Spot → S → ℕ
+  hits s x = one_if (same_spot s (spot_of (place_of x)))
+
+  -- all slots that a write moves are at places of their own
+  abbrev pub all_hits : Spot → Pair S → Pair S → Pair S → ℕ
+  all_hits s old units inode =
+      (hits s old.first + hits s old.second) + ((hits s units.first + hits s units.second) + (hits s inode.first + hits s inode.second))
+
+  pub one_hit : (shape : Cluster) (log : List Told) (stock ready mid : Shelves S) (bytes : List ℕ) (old units inode : Pair S)
+      → OneEach place_of (holding shape log (Empty old)) stock → ready.free ≡ stock.free
+      → Draws2 place_of content ready mid bytes units inode → (s : Spot) → all_hits s old units inode ≤ 1
+  one_hit shape log stock ready mid bytes old units inode one same drawn s =
+      let total = one s in
+      let two = count_pair place_of content (same_spot s) old in
+      let first = drawn.units_drawn.moved (same_spot s) in
+      let second = drawn.inode_drawn.moved (same_spot s) in
+      let before : count_at place_of (same_spot s) ready.free ≡ count_at place_of (same_spot s) stock.free = ap (count_at place_of (same_spot s)) same in
+      omega (arith, total, two, first, second, before)
+
+  self : (x : S) → hits (spot_of (place_of x)) x ≡ 1
+  self x = ap one_if (same_spot-refl (spot_of (place_of x)))
+
+  -- the groups that a write places, and the inode
+  abbrev pub change_of : Pair S → Pair S → Change
+  change_of units inode = record { old = []; new = mirror_of place_of 1 units ∷ []; inode = mirror_of place_of 2 inode }
+
+  -- a write of at most a unit makes one group
+  pub may_write : (shape : Cluster) (board : List BoardEntry) (bytes : List ℕ) (old : Pair S) → IsCluster shape → 1 ≤ length bytes
+      → length bytes ≤ shape.unit → 2 ≤ room_of two_copies shape (up_after shape board (length board))
+      → MayWrite (last_moment shape board) (layout_of place_of (Empty old)) 0 (length bytes) 1
+  may_write shape board bytes old is some fits usable =
+      let q : (0 + length bytes - 1) / shape.unit ≡ 0 = one_unit (length bytes) shape.unit some fits in
+      let units_are_one : max ((0 + length bytes - 1) / shape.unit + 1) (0 + 0) - 0 ≡ 1 = omega (arith, q) in
+      let same_room : room_of two_copies shape (is_usable (last_moment shape board) (layout_of place_of (Empty old)))
+      ≡ room_of two_copies shape (up_after shape board (length board)) =
+      room_of_same two_copies shape _ _ is (λ e of_e. and-true (up_after shape board (length board) e)) in
+      record {
+        wide = ap (λ (r : ℕ). cond (leb 2 r) (Some (min 1 (r - 1))) None) same_room ∙ width_one _ usable;
+        groups = subst (λ (n : ℕ). 0 - 0 + chunk_count n 1 ≤ 256) (sym units_are_one) (lit≤ tt);
+      }
+
+  -- the write is legal after the create
+  pub write_step : (shape : Cluster) (board : List BoardEntry) (log : List Told) (bytes : List ℕ) (old units inode : Pair S)
+      → IsCluster shape → 1 ≤ length bytes → length bytes ≤ shape.unit → bytes_after log ≡ []
+      → 2 ≤ room_of two_copies shape (up_after shape board (length board))
+      → IsMirror place_of shape units → IsMirror place_of shape inode
+      → up_after shape board (length board) (spot_of (place_of units.first)).drive ≡ true
+      → up_after shape board (length board) (spot_of (place_of units.second)).drive ≡ true
+      → up_after shape board (length board) (spot_of (place_of inode.first)).drive ≡ true
+      → up_after shape board (length board) (spot_of (place_of inode.second)).drive ≡ true
+      → ((s : Spot) → all_hits s old units inode ≤ 1)
+      → Writes (last_moment shape board) log (layout_of place_of (Empty old)) 0 (length bytes) (change_of units inode) bytes
+  write_step shape board log bytes old units inode is some fits empty usable um im u1 u2 i1 i2 hits_of =
+      let a = spot_of (place_of units.first) in
+      let b = spot_of (place_of units.second) in
+      let c = spot_of (place_of inode.first) in
+      let d = spot_of (place_of inode.second) in
+      let at_a = hits_of a in
+      let at_b = hits_of b in
+      let at_c = hits_of c in
+      let at_d = hits_of d in
+      let sa = self units.first in
+      let sb = self units.second in
+      let sc = self inode.first in
+      let sd = self inode.second in
+      let no : (s : Spot) → hits s old.first ≡ 0 → hits s old.second ≡ 0 → is_taken (all_groups (layout_of place_of (Empty old))) s ≡ false =
+      λ s one two. or_from _ _ (zero_false _ one) (or_from _ _ (zero_false _ two) refl) in
+      let q : (0 + length bytes - 1) / shape.unit ≡ 0 = one_unit (length bytes) shape.unit some fits in
+      let units_are_one : max ((0 + length bytes - 1) / shape.unit + 1) (0 + 0) - 0 ≡ 1 = omega (arith, q) in
+      record {
+        present = refl;
+        width = 1;
+        may = may_write shape board bytes old is some fits usable;
+        old = refl;
+        chunks = (sym units_are_one, omega arith, omega arith);
+        level = (mirror_level place_of content shape 1 units um, tt);
+        inode = record { one = refl; at_level = mirror_level place_of content shape 2 inode im };
+        numbers = (refl, refl);
+        places = record {
+          each = (
+            new_place place_of content shape board (Empty old) a um.first u1 (no a (omega arith) (omega arith)),
+            (
+              new_place place_of content shape board (Empty old) b um.second u2 (no b (omega arith) (omega arith)),
+              (
+                new_place place_of content shape board (Empty old) c im.first i1 (no c (omega arith) (omega arith)),
+                (new_place place_of content shape board (Empty old) d im.second i2 (no d (omega arith) (omega arith)), tt),
+              ),
+            ),
+          );
+          distinct = (
+            (zero_false _ (omega arith), (zero_false _ (omega arith), (zero_false _ (omega arith), tt))),
+            (
+              (zero_false _ (omega arith), (zero_false _ (omega arith), tt)),
+              ((zero_false _ (omega arith), tt), (tt, tt)),
+            ),
+          );
+        };
+        groups = omega arith;
+        new_size = ap length (sym (ap (λ (o : List ℕ). overwrite o 0 bytes) empty ∙ overwrite-empty bytes));
+      }
+
+  -- the bytes were written
+  pub write_played : (by : By) (shape : Cluster) (log later : List Told) (bytes : List ℕ) (stock ready mid rest : Shelves S) (old units inode : Pair S)
+      → stock.shape ≡ shape → ready.shape ≡ stock.shape → ready.board ≡ stock.board → ready.free ≡ stock.free → ready.retired ≡ stock.retired
+      → IsCluster shape → 1 ≤ length bytes → length bytes ≤ shape.unit
+      → 2 ≤ room_of two_copies shape (up_after shape stock.board (length stock.board))
+      → later ≡ log ++ record {
+        entry = record { by = by; epoch = length stock.board; event = event.Written 0 (length bytes) (length bytes) (change_of units inode) };
+        payload = bytes;
+      } ∷ []
+      → KeepsFile place_of content shape log (Empty old) → OneEach place_of (holding shape log (Empty old)) stock
+      → Draws2 place_of content ready mid bytes units inode → SameBeside ready mid → Releases mid rest old
+      → Played place_of content by (plain.Write bytes) shape log later (Empty old) (Written (length bytes) units inode) stock rest
+  write_played by shape log later bytes stock ready mid rest old units inode same_shape ready_shape ready_board ready_free ready_retired
+      is some fits usable grown inside one drawn beside released =
+      let u = drawn.units_drawn in
+      let v = drawn.inode_drawn in
+      let shape_ready : ready.shape ≡ shape = ready_shape ∙ same_shape in
+      let shape_between : drawn.between.shape ≡ shape = drawn.beside.shape ∙ shape_ready in
+      let board_between : drawn.between.board ≡ stock.board = drawn.beside.board ∙ ready_board in
+      let um : IsMirror place_of shape units = subst (λ (k : Cluster). IsMirror place_of k units) shape_ready u.mirror in
+      let im : IsMirror place_of shape inode = subst (λ (k : Cluster). IsMirror place_of k inode) shape_between v.mirror in
+      let up_unit : (e : Drive) → up_after ready.shape ready.board (length ready.board) e ≡ true → up_after shape stock.board (length stock.board) e ≡ true =
+      λ e h. sym (ap (λ (k : Cluster). up_after k stock.board (length stock.board) e) shape_ready)
+      ∙ sym (ap (λ (k : List BoardEntry). up_after ready.shape k (length k) e) ready_board) ∙ h in
+      let up_inode : (e : Drive) → up_after drawn.between.shape drawn.between.board (length drawn.between.board) e ≡ true → up_after shape stock.board (length stock.board) e ≡ true =
+      λ e h. sym (ap (λ (k : Cluster). up_after k stock.board (length stock.board) e) shape_between)
+      ∙ sym (ap (λ (k : List BoardEntry). up_after drawn.between.shape k (length k) e) board_between) ∙ h in
+      let t : Told = record {
+        entry = record { by = by; epoch = length stock.board; event = event.Written 0 (length bytes) (length bytes) (change_of units inode) };
+        payload = bytes;
+      } in
+      let empty : bytes_after log ≡ [] = inside.holds.0 in
+      let same_bytes : bytes_after (log ++ t ∷ []) ≡ bytes =
+      bytes_from-push log t [] ∙ ap (λ (o : List ℕ). overwrite o 0 bytes) empty ∙ overwrite-empty bytes in
+      let step = write_step shape stock.board log bytes old units inode is some fits empty usable um im
+      (up_unit (spot_of (place_of units.first)).drive u.first_up) (up_unit (spot_of (place_of units.second)).drive u.second_up)
+      (up_inode (spot_of (place_of inode.first)).drive v.first_up) (up_inode (spot_of (place_of inode.second)).drive v.second_up)
+      (one_hit shape log stock ready mid bytes old units inode one ready_free drawn) in
+      record {
+        plays = record {
+          event = event.Written 0 (length bytes) (length bytes) (change_of units inode);
+          answers = (refl, bytes, refl, refl);
+          told = t;
+          is_told = refl;
+          log = grown;
+          legal = λ told. (
+            refl,
+            some,
+            subst (λ (l : Layout). Writes (last_moment shape stock.board) log l 0 (length bytes) (change_of units inode) bytes) (sym inside.layout) step,
+          );
+        };
+        inside = subst (λ (l : List Told). KeepsFile place_of content shape l (Written (length bytes) units inode)) (sym grown) (record {
+          layout = layout_from-push log t two_copies _
+              ∙ ap (λ (l : Layout). layout_after_event two_copies (event.Written 0 (length bytes) (length bytes) (change_of units inode)) l) inside.layout;
+          holds = subst (HoldsFile place_of content shape (Written (length bytes) units inode)) (sym same_bytes) (
+            refl,
+            some,
+            fits,
+            um,
+            im,
+            subst (λ (k : Cluster). AreCopies content units (bytes ++ replicate (k.unit - length bytes) 0)) shape_ready u.copies,
+            subst (λ (k : Cluster). AreCopies content inode (inode_bytes (record { level = two_copies; unit = k.unit; size = length bytes; groups = mirror_of place_of 1 units ∷ [] }))) shape_ready v.copies,
+          );
+        });
+        tell = λ told.
+            let told_units = u.tell (subst (Tell content) (sym ready_free) told.free) in
+            let told_inode = v.tell told_units.0 in
+            let moved = released.moved (λ x. is_none (content x)) in
+            let retired : count_by (λ x. is_none (content x)) mid.retired ≡ 0 =
+            ap (count_by (λ x. is_none (content x))) (beside.retired ∙ ready_retired) ∙ told.retired in
+            let none_free : count_by (λ x. is_none (content x)) mid.free ≡ 0 = told_inode.0 in
+            let old_told : (0 + one_if (is_none (content old.first))) + one_if (is_none (content old.second)) ≡ 0 = told.inode in
+            record {
+              units = tell_pair place_of content units told_units.1 told_units.2;
+              inode = tell_pair place_of content inode told_inode.1 told_inode.2;
+              free = omega (arith, moved, retired, none_free, old_told);
+              retired = omega (arith, moved, retired, none_free, old_told);
+            };
+      }
+
+  -- the slots of the group and the new inode came from the stock, and the old inode's went back
+  pub write_moves : (shape : Cluster) (log later : List Told) (bytes : List ℕ) (stock ready mid rest : Shelves S) (old units inode : Pair S)
+      → ready.shape ≡ stock.shape → ready.board ≡ stock.board → ready.free ≡ stock.free → ready.retired ≡ stock.retired
+      → Draws2 place_of content ready mid bytes units inode → SameBeside ready mid → Releases mid rest old
+      → Moves place_of content (plain.Write bytes) shape log later (Empty old) (Written (length bytes) units inode) stock rest
+  write_moves shape log later bytes stock ready mid rest old units inode ready_shape ready_board ready_free ready_retired drawn beside released = record {
+    conserved = λ p.
+        let first = drawn.units_drawn.moved p in
+        let second = drawn.inode_drawn.moved p in
+        let back = released.moved (λ x. p (spot_of (place_of x))) in
+        let retired : count_at place_of p mid.retired ≡ count_at place_of p stock.retired = ap (count_at place_of p) (beside.retired ∙ ready_retired) in
+        let free : count_at place_of p ready.free ≡ count_at place_of p stock.free = ap (count_at place_of p) ready_free in
+        let a = count_pair place_of content p old in
+        let b = count_pair place_of content p units in
+        let c = count_pair place_of content p inode in
+        omega (arith, first, second, back, retired, free, a, b, c);
+    spared = λ d.
+        let first = drawn.units_drawn.moved (λ s. same_drive d s.drive) in
+        let second = drawn.inode_drawn.moved (λ s. same_drive d s.drive) in
+        let more = released.more (λ x. same_drive d (spot_of (place_of x)).drive) in
+        let free : count_at place_of (λ s. same_drive d s.drive) ready.free ≡ count_at place_of (λ s. same_drive d s.drive) stock.free =
+        ap (count_at place_of (λ s. same_drive d s.drive)) ready_free in
+        let once = apart_once d (spot_of (place_of units.first)).drive (spot_of (place_of units.second)).drive drawn.units_drawn.mirror.apart in
+        let again = apart_once d (spot_of (place_of inode.first)).drive (spot_of (place_of inode.second)).drive drawn.inode_drawn.mirror.apart in
+        omega (arith, first, second, more, free, once, again);
+    shape_same = released.shape ∙ beside.shape ∙ ready_shape;
+    board = released.board ∙ beside.board ∙ ready_board;
+  }
+
+  -- the slots of the old inode may go back
+  pub may_release : (shape : Cluster) (log : List Told) (bytes : List ℕ) (ready mid : Shelves S) (old units inode : Pair S)
+      → mid.shape ≡ shape → 2 ≤ ready.spare → mid.spare ≡ ready.spare → Draws2 place_of content ready mid bytes units inode
+      → KeepsFile place_of content shape log (Empty old) → MayRelease place_of mid (Empty old)
+  may_release shape log bytes ready mid old units inode same spare kept drawn inside = record {
+    room = omega (arith, drawn.units_drawn.room, drawn.inode_drawn.room);
+    spare = omega (arith, spare, kept);
+    mirror = subst (λ (k : Cluster). IsMirror place_of k old) (sym same) inside.holds.1;
+  }
+
+  -- a write finds too few live units of the inode
+  pub lost_write : (shape : Cluster) (board : List BoardEntry) (log : List Told) (bytes : List ℕ) (standing : Standing S) (lost : Lost)
+      → IsCluster shape → 1 ≤ length bytes → length bytes ≤ shape.unit
+      → 2 ≤ room_of two_copies shape (up_after shape board (length board))
+      → KeepsFile place_of content shape log standing → is_present standing ≡ true → IsUnwritten log
+      → short_in (group_list (layout_of place_of standing).inode) (last_moment shape board) (layout_of place_of standing) ≡ Some lost
+      → IsRefusal (last_moment shape board) (layout_of place_of standing) (refused.WriteLost 0 (length bytes) lost)
+  lost_write shape board log bytes standing lost is some fits usable inside present off short =
+      let alone = has_inode_alone shape log standing inside present off in
+      let at_empty : IsRefusal (last_moment shape board) (layout_of place_of (Empty alone.0)) (refused.WriteLost 0 (length bytes) lost) = (
+        refl,
+        1,
+        may_write shape board bytes alone.0 is some fits usable,
+        subst (λ (st : Standing S). short_in (group_list (layout_of place_of st).inode) (last_moment shape board) (layout_of place_of st) ≡ Some lost) alone.1 short,
+      ) in
+      subst (λ (st : Standing S). IsRefusal (last_moment shape board) (layout_of place_of st) (refused.WriteLost 0 (length bytes) lost)) (sym alone.1) at_empty
