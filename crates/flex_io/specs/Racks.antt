@@ -8,8 +8,10 @@ abbrev pub place_on : ℕ × ℕ → ℕ → RawPlace
 place_on drive slot = record { node = drive.0; drive = drive.1; slot = slot }
 
 -- what came back before, and then the slot of this place with this content, where both are told
-abbrev pub TakesBack : Option (List Returned) → Option (List Returned) → RawPlace → Option (List ℕ) → Type 0
-TakesBack (Some before) (Some now) place (Some bytes) = now ≡ before ++ record { place = place; bytes = bytes } ∷ []
+abbrev pub TakesBack : Option (List Returned) → Option (List Returned) → RawPlace → Option (List ℕ)
+    → Type 0
+TakesBack (Some before) (Some now) place (Some bytes) =
+    now ≡ before ++ record { place = place; bytes = bytes } ∷ []
 TakesBack (Some before) None place (Some bytes) = ⊥
 TakesBack (Some before) now place None = ⊤
 TakesBack None now place content = ⊤

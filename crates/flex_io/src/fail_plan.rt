@@ -2,7 +2,7 @@
 
 ghost use Rattle.std.specs.Prelude.{◌≡◌, ◌≤◌, ◌==◌};
 ghost use Rattle.std.specs.List.{list_any};
-ghost use Rattle.flex_io.specs.Calls.{next_fails, after_next};
+ghost use Rattle.flex_io.specs.Calls.{planned, next_fails, after_next};
 
 use lists::List;
 use std::marker::Model;
@@ -26,7 +26,7 @@ impl Model for FailPlan {
 impl FailPlan {
     /// A plan by which the calls of these numbers fail, counted from 1.
     pub(crate) fn new(fails: List<u32>) -> Self
-        ensures { result ≡ record { fails = fails; made = 0; failed = 0 } }
+        ensures { result ≡ planned fails }
     {
         FailPlan {
             fails,

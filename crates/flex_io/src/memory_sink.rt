@@ -4,8 +4,8 @@ ghost use Rattle.std.specs.Prelude.{◌≡◌, ◌↔◌, ◌≤◌, ◌<◌, []
 ghost use Rattle.std.specs.Result.{IsErrOf};
 ghost use Rattle.std.specs.Io.{WritesAtMost};
 ghost use Rattle.std.specs.Io.KnownBytes.{WriteAppends};
-ghost use Rattle.flex_io.specs.Faults.{HasRisen};
-ghost use Rattle.flex_io.specs.Calls.{next_fails, after_next};
+ghost use Rattle.flex_io.specs.Faults.{HasCause};
+ghost use Rattle.flex_io.specs.Calls.{planned, next_fails, after_next};
 
 use crate::fail_plan::FailPlan;
 use crate::{Fault, Sink};
@@ -31,7 +31,7 @@ impl Model for MemorySink {
 impl MemorySink {
     /// A sink that has taken nothing, and fails at the calls of these numbers, counted from 1.
     pub fn new(alloc: Global, fails: List<u32>) -> Self
-        ensures { result ≡ record { bytes = []; calls = record { fails = fails; made = 0; failed = 0 } } }
+        ensures { result ≡ record { bytes = []; calls = planned fails } }
     {
         MemorySink {
             bytes: Vec::new(alloc),
@@ -55,11 +55,13 @@ impl Sink for MemorySink {
     fn write(&mut self, bytes: &[u8]) -> Result<usize, Fault>
         // As each sink.
         ensures within { WritesAtMost result bytes.now }
-        ensures written { WriteAppends (Some self.old.bytes) (Some self.new.bytes) result bytes.now }
+        ensures written { WriteAppends (Some self.old.bytes) (Some self.new.bytes)
+            result bytes.now }
         ensures some { IfOk result (λ count. 0 < length bytes.now → 0 < count) }
-        ensures faults { IsErrOf result Fault.Failed → HasRisen self.old.calls.failed self.new.calls.failed }
+        ensures faults { HasCause result self.old.calls.failed self.new.calls.failed }
         ensures no_memory { IsErrOf result Fault.NoMemory
-            → (Some self.new.bytes ≡ Some self.old.bytes) × (self.new.calls.failed ≡ self.old.calls.failed) }
+            → (Some self.new.bytes ≡ Some self.old.bytes)
+            × (self.new.calls.failed ≡ self.old.calls.failed) }
         ensures never_falls { self.old.calls.failed ≤ self.new.calls.failed }
 
         // Each call but the planned ones takes all bytes, if there is memory for them.

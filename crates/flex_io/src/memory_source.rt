@@ -4,7 +4,7 @@ ghost use Rattle.std.specs.Prelude.{◌≡◌, ◌≤◌, min, length, Some, is_
 ghost use Rattle.std.specs.Io.{ReadsAtMost};
 ghost use Rattle.std.specs.Io.KnownBytes.{ReadConsumes};
 ghost use Rattle.flex_io.specs.Faults.{HasRisen};
-ghost use Rattle.flex_io.specs.Calls.{next_fails, after_next};
+ghost use Rattle.flex_io.specs.Calls.{planned, next_fails, after_next};
 
 use crate::fail_plan::FailPlan;
 use crate::{Failed, Source, SureSource};
@@ -29,7 +29,7 @@ impl Model for MemorySource {
 impl MemorySource {
     /// A source that gives these bytes, and fails at the calls of these numbers, counted from 1.
     pub fn new(bytes: Vec<u8>, fails: List<u32>) -> Self
-        ensures { result ≡ record { left = bytes.items; calls = record { fails = fails; made = 0; failed = 0 } } }
+        ensures { result ≡ record { left = bytes.items; calls = planned fails } }
     {
         MemorySource {
             bytes: SureSource::new(bytes),

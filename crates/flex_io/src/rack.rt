@@ -3,7 +3,7 @@
 ghost use Rattle.std.specs.Prelude.{◌≡◌, ℕ, List, [], Option, ◌≤◌, IfOk, OnOk, OnErr};
 ghost use Rattle.std.specs.Result.{IsErrOf};
 ghost use Rattle.flex_io.specs.declared.rack.Returned.{Returned};
-ghost use Rattle.flex_io.specs.Faults.{HasRisen};
+ghost use Rattle.flex_io.specs.Faults.{HasCause};
 ghost use Rattle.flex_io.specs.Slots.{StaysTold, Holds};
 ghost use Rattle.flex_io.specs.Racks.{place_on, TakesBack, TellsToo};
 
@@ -36,7 +36,7 @@ pub trait Rack {
         ensures len { IfOk result (λ piece. Self.Piece.len_of piece ≡ 0) }
         ensures told { IfOk result (λ piece. TellsToo (back self.old) (Self.Piece.content piece)) }
         ensures same { back self.new ≡ back self.old }
-        ensures faults { IsErrOf result Fault.Failed → HasRisen (faults self.old) (faults self.new) }
+        ensures faults { HasCause result (faults self.old) (faults self.new) }
         ensures no_memory { IsErrOf result Fault.NoMemory → faults self.new ≡ faults self.old }
         ensures never_falls { faults self.old ≤ faults self.new };
 
@@ -45,7 +45,7 @@ pub trait Rack {
         ensures ok { OnOk result (TakesBack (back self.old) (back self.new)
             (Self.Piece.place_of piece) (Self.Piece.content piece)) }
         ensures kept { OnErr result (back self.new ≡ back self.old) }
-        ensures faults { IsErrOf result Fault.Failed → HasRisen (faults self.old) (faults self.new) }
+        ensures faults { HasCause result (faults self.old) (faults self.new) }
         ensures no_memory { IsErrOf result Fault.NoMemory → faults self.new ≡ faults self.old }
         ensures never_falls { faults self.old ≤ faults self.new };
 }

@@ -4,7 +4,7 @@ ghost use Rattle.std.specs.Prelude.{◌≡◌, ℕ, List, Option, ◌≤◌, ◌
 ghost use Rattle.std.specs.Result.{IsErrOf};
 ghost use Rattle.std.specs.Io.{WritesAtMost};
 ghost use Rattle.std.specs.Io.KnownBytes.{WriteAppends};
-ghost use Rattle.flex_io.specs.Faults.{HasRisen};
+ghost use Rattle.flex_io.specs.Faults.{HasCause};
 
 use crate::Fault;
 
@@ -22,7 +22,7 @@ pub trait Sink {
         ensures within { WritesAtMost result bytes.now }
         ensures written { WriteAppends (taken self.old) (taken self.new) result bytes.now }
         ensures some { IfOk result (λ count. 0 < length bytes.now → 0 < count) }
-        ensures faults { IsErrOf result Fault.Failed → HasRisen (faults self.old) (faults self.new) }
+        ensures faults { HasCause result (faults self.old) (faults self.new) }
         ensures no_memory { IsErrOf result Fault.NoMemory
             → (taken self.new ≡ taken self.old) × (faults self.new ≡ faults self.old) }
         ensures never_falls { faults self.old ≤ faults self.new };

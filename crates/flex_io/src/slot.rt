@@ -3,7 +3,7 @@
 ghost use Rattle.std.specs.Prelude.{◌≡◌, ℕ, List, Option, ◌≤◌, length, IsOk, OnOk, OnErr};
 ghost use Rattle.std.specs.Result.{IsErrOf};
 ghost use Rattle.flex_io.specs.declared.raw_place.RawPlace.{RawPlace};
-ghost use Rattle.flex_io.specs.Faults.{HasRisen};
+ghost use Rattle.flex_io.specs.Faults.{HasRisen, HasCause};
 ghost use Rattle.flex_io.specs.Slots.{StaysTold, Holds, CountsRead};
 
 use crate::{Failed, Fault, RawPlace};
@@ -36,7 +36,7 @@ pub trait Slot {
     fn len(&self) -> u32
         ensures { result ≡ len_of self.now };
 
-    /// Puts the bytes in the place of what the slot holds. A write that fails may leave any content.
+    /// Puts the bytes in the place of what the slot holds. A write that fails leaves any content.
     fn write(&mut self, bytes: &[u8]) -> Result<(), Fault>
         requires { length bytes.now ≤ 262144 }
 
@@ -51,7 +51,7 @@ pub trait Slot {
         ensures reads { reads self.new ≡ reads self.old }
         ensures steady { is_steady self.old → is_steady self.new }
 
-        ensures faults { IsErrOf result Fault.Failed → HasRisen (faults self.old) (faults self.new) }
+        ensures faults { HasCause result (faults self.old) (faults self.new) }
         ensures no_memory { IsErrOf result Fault.NoMemory
             → (content self.new ≡ content self.old) × (faults self.new ≡ faults self.old) }
         ensures never_falls { faults self.old ≤ faults self.new };

@@ -11,8 +11,8 @@ use std::marker::Model;
 /// How often a write is made that signals interrupt, before it counts as a fault.
 const TRIES: u32 = 1_000;
 
-/// A writer of std as a sink: one write of std for each write. What the writer tells of its bytes is
-/// trusted. Contracts see the writer and the count of its faults.
+/// A writer of std as a sink: one write of std for each write. What the writer tells of its bytes
+/// is trusted. Contracts see the writer and the count of its faults.
 #[derive(Drop)]
 pub struct StdSink<Wr> {
     inner: Wr,
@@ -52,11 +52,12 @@ impl<Wr: Write> Sink for StdSink<Wr> {
     }
 }
 
-/// One write of std. One that a signal interrupts has taken nothing, and is made again; one that takes
-/// none of some bytes has failed.
+/// One write of std. One that a signal interrupts has taken nothing, and is made again; one that
+/// takes none of some bytes has failed.
 fn write_once<Wr: Write>(writer: &mut Wr, bytes: &[u8]) -> Result<usize, Failed>
     ensures within { WritesAtMost result bytes.now }
-    ensures written { WriteAppends (Wr.contents writer.old) (Wr.contents writer.new) result bytes.now }
+    ensures written { WriteAppends (Wr.contents writer.old) (Wr.contents writer.new)
+        result bytes.now }
     ensures some { IfOk result (λ count. 0 < length bytes.now → 0 < count) }
 {
     for _turn in 0..TRIES {

@@ -11,8 +11,8 @@ use std::marker::Model;
 /// How often a read is made that signals interrupt, before it counts as a fault.
 const TRIES: u32 = 1_000;
 
-/// A reader of std as a source: one read of std for each read. What the reader tells of its bytes is
-/// trusted. Contracts see the reader and the count of its faults.
+/// A reader of std as a source: one read of std for each read. What the reader tells of its bytes
+/// is trusted. Contracts see the reader and the count of its faults.
 #[derive(Drop)]
 pub struct StdSource<Rd> {
     inner: Rd,
@@ -55,7 +55,8 @@ impl<Rd: Read> Source for StdSource<Rd> {
 /// One read of std. One that a signal interrupts has taken nothing, and is made again.
 fn read_once<Rd: Read>(reader: &mut Rd, buf: &mut [u8]) -> Result<usize, Failed>
     ensures within { ReadsAtMost result buf.new }
-    ensures consumed { ReadConsumes (Rd.remaining reader.old) (Rd.remaining reader.new) result buf.new }
+    ensures consumed { ReadConsumes (Rd.remaining reader.old) (Rd.remaining reader.new)
+        result buf.new }
 {
     for _turn in 0..TRIES {
         match reader.read(buf) {

@@ -1,9 +1,8 @@
 //! A source read whole, and a text written whole.
 
 ghost use Rattle.std.specs.Prelude.{◌≤◌, ◌<◌, ◌≡◌, IfOk, IfErr, OnOk, vec_len};
-ghost use Rattle.std.specs.Result.{IsErrOf};
 ghost use Rattle.std.specs.Io.KnownBytes.{Appends};
-ghost use Rattle.flex_io.specs.Faults.{HasRisen};
+ghost use Rattle.flex_io.specs.Faults.{HasCause};
 ghost use Rattle.flex_io.specs.Inputs.{IsInput, AddsPiece, ConsumesSome, AppendsFront};
 
 use crate::{Failed, Fault, Sink, Source};
@@ -27,7 +26,7 @@ pub enum Input {
 pub fn read_up_to<S: Source>(alloc: Global, source: &mut S, limit: u32) -> Result<Input, Fault>
     ensures ok { IfOk result (IsInput (S.remaining source.old) (S.remaining source.new) limit) }
     ensures consumed { ConsumesSome (S.remaining source.old) (S.remaining source.new) }
-    ensures faults { IsErrOf result Fault.Failed → HasRisen (S.faults source.old) (S.faults source.new) }
+    ensures faults { HasCause result (S.faults source.old) (S.faults source.new) }
     ensures never_falls { S.faults source.old ≤ S.faults source.new }
 {
     let mut buffer = reading_buffer(alloc)?;
@@ -46,7 +45,7 @@ pub fn read_up_to<S: Source>(alloc: Global, source: &mut S, limit: u32) -> Resul
 /// Room for one read.
 fn reading_buffer(alloc: Global) -> Result<Vec<u8>, Fault>
     ensures ok { IfOk result (λ buffer. 0 < vec_len buffer) }
-    ensures memory { IfErr result (λ fault. fault ≡ Fault.NoMemory) }
+    ensures no_memory { IfErr result (λ fault. fault ≡ Fault.NoMemory) }
 {
     vec![in alloc; 0u8; PIECE].map_err(|_| Fault::NoMemory)
 }
@@ -62,7 +61,7 @@ fn read_piece<S: Source>(
         bytes.old.items bytes.new.items) }
     ensures consumed { ConsumesSome (S.remaining source.old) (S.remaining source.new) }
     ensures room { vec_len buffer.new ≡ vec_len buffer.old }
-    ensures faults { IsErrOf result Fault.Failed → HasRisen (S.faults source.old) (S.faults source.new) }
+    ensures faults { HasCause result (S.faults source.old) (S.faults source.new) }
     ensures never_falls { S.faults source.old ≤ S.faults source.new }
 {
     let count = match source.read(buffer) {
@@ -79,7 +78,7 @@ fn read_piece<S: Source>(
 pub fn write_all<S: Sink>(sink: &mut S, bytes: &[u8]) -> Result<(), Fault>
     ensures ok { OnOk result (Appends (S.taken sink.old) (S.taken sink.new) bytes.now) }
     ensures written { AppendsFront (S.taken sink.old) (S.taken sink.new) bytes.now }
-    ensures faults { IsErrOf result Fault.Failed → HasRisen (S.faults sink.old) (S.faults sink.new) }
+    ensures faults { HasCause result (S.faults sink.old) (S.faults sink.new) }
     ensures never_falls { S.faults sink.old ≤ S.faults sink.new }
 {
     let mut at = 0;

@@ -42,7 +42,7 @@ impl Source for SureSource {
         // As each source. It never fails, and gives all that fits.
         ensures within { ReadsAtMost result buf.new }
         ensures consumed { ReadConsumes (Some self.old) (Some self.new) result buf.new }
-        ensures sure { result ≡ Ok (min (length self.old) (length buf.old)) }
+        ensures value { result ≡ Ok (min (length self.old) (length buf.old)) }
     {
         let count = copy_front(&self.bytes[self.at..], buf);
         self.at += count;

@@ -139,8 +139,8 @@ fn a_slot_comes_back_with_its_place_and_bytes(rt: HostRuntime) -> Result<(), Fai
     Ok(())
 }
 
-/// A stream of std over bytes in memory. It moves a byte at a call, is interrupted so often before each,
-/// and is broken once it has moved `sound` bytes.
+/// A stream of std over bytes in memory. It moves a byte at a call, is interrupted so often before
+/// each, and is broken once it has moved `sound` bytes.
 #[derive(Drop)]
 struct Fickle {
     bytes: Vec<u8>,

@@ -2,17 +2,12 @@
 use Rattle.std.proofs.Common.{◌≡◌, ◌≢◌, ℕ, zero, suc, ◌<◌, List, [], ◌∷◌, length, All, AllPairs, get_or, sym, ap, ap₂, ◌∙◌, refl, arith}
 use Rattle.std.proofs.lemmas.List.Elements.{All-head, All-tail, All-cons, All-nil}
 use Rattle.galois.specs.Field.{IsByte, field_sum, field_product}
-use Rattle.galois.specs.Polynomial.{polynomial_value}
+use Rattle.galois.specs.Polynomial.{polynomial_value, linear_times}
 use Rattle.galois.proofs.Doubling.{sum_comm, sum_zero, sum_self, sum_twice, sum-byte}
 use Rattle.galois.proofs.Products.{product-byte, product_comm, product_assoc, one-product, product-zero, zero-product}
 use Rattle.galois.proofs.Inverses.{inverse, inverse-byte, product-inverse, difference_not_zero}
 use Rattle.galois.proofs.Values.{value-nil, value-cons, value-byte, factor_step}
 use Rattle.galois.proofs.Roots.{different_first, different_rest}
-
--- the polynomial c and x + a times another
-abbrev pub linear_times : ℕ → ℕ → List ℕ → List ℕ
-linear_times a c [] = c ∷ []
-linear_times a c (q ∷ qs) = field_sum c (field_product a q) ∷ linear_times a q qs
 
 pub linear_times-bytes : (a c : ℕ) (qs : List ℕ) → IsByte a → IsByte c → All IsByte qs → All IsByte (linear_times a c qs)
 linear_times-bytes a c [] ha hc hqs = All-cons IsByte c [] hc (All-nil IsByte)

@@ -7,4 +7,5 @@ pub mod Mirrors
 pub mod Products
 pub mod Roots
 pub mod Rows
+mod Through
 pub mod Values

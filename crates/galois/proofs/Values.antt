@@ -2,7 +2,7 @@
 use Rattle.std.proofs.Common.{◌≡◌, ℕ, zero, suc, List, [], ◌∷◌, length, All, sym, ap, ap₂, ◌∙◌, refl, arith}
 use Rattle.std.proofs.lemmas.List.Elements.{All-head, All-tail, All-cons}
 use Rattle.galois.specs.Field.{IsByte, field_sum, field_product, field_power}
-use Rattle.galois.specs.Polynomial.{value_from, polynomial_value}
+use Rattle.galois.specs.Polynomial.{value_from, polynomial_value, added}
 use Rattle.galois.proofs.Doubling.{sum_assoc, sum_zero, sum_self, sum-byte, sum_of_sums}
 use Rattle.galois.proofs.Products.{product-byte, product_comm, product_assoc, product-sum, product-sum_left, product-one, product-zero}
 
@@ -47,12 +47,6 @@ pub value-cons : (c : ℕ) (cs : List ℕ) (x : ℕ) → IsByte c → All IsByte
     → polynomial_value (c ∷ cs) x ≡ field_sum c (field_product x (polynomial_value cs x))
 unfolding polynomial_value value_from field_power
 value-cons c cs x hc hcs hx = ap₂ field_sum (product-one c hc) (value_from-suc cs 0 x hcs hx)
-
--- the sum of a list and a multiple of another of the same length
-abbrev pub added : ℕ → List ℕ → List ℕ → List ℕ
-added s [] qs = []
-added s (a ∷ ps) [] = a ∷ ps
-added s (a ∷ ps) (b ∷ qs) = field_sum a (field_product s b) ∷ added s ps qs
 
 pub added-bytes : (s : ℕ) (ps qs : List ℕ) → IsByte s → All IsByte ps → All IsByte (added s ps qs)
 added-bytes s [] qs hs ha = ha

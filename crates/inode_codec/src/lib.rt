@@ -2,6 +2,8 @@
 #![tactic(auto)]
 
 mod inode;
+#[cfg(test)]
+mod tests;
 mod writer;
 
 pub use inode::Inode;

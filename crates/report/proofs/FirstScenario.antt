@@ -1,8 +1,8 @@
 -- The definitions on a small run: two nodes of one drive, a mirrored file that is created, written and read.
-use Rattle.std.proofs.Common.{codes, ◌≡◌, ℕ, Bool, true, false, List, [], ◌∷◌, ◌++◌, Option, Some, None, refl, rules}
+use Rattle.std.proofs.Common.{codes, ◌≡◌, ℕ, List, [], ◌∷◌, refl, rules}
 use Rattle.std.specs.Fmt.{digits}
 use Rattle.hex.proofs.OnLiterals.{hex_on_literals}
-use Rattle.domains.specs.Drive.{Drive, Spot}
+use Rattle.domains.specs.Drive.{Spot}
 use Rattle.domains.specs.Level.{two_copies}
 use Rattle.domains.specs.declared.group.Group.{Group}
 use Rattle.scenarios.specs.Ops.{op_text, drive_text}
@@ -13,7 +13,6 @@ use Rattle.file_core.specs.declared.entry.FileEvent.{FileEvent}
 use Rattle.file_core.specs.declared.entry.FileEvent.TheVariants.{Created, Written, Shown}
 use Rattle.file_core.specs.declared.entry.FileEntry.{FileEntry}
 use Rattle.report.specs.Words.{by_text, place_text, group_text}
-use Rattle.report.specs.BoardLines as board
 use Rattle.report.specs.FileLines as file
 use Rattle.report.specs.Printed.{printed, board_block, file_block}
 use Rattle.std.specs.List.{AllByRecursion}

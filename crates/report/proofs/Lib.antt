@@ -1,1 +1,3 @@
 mod FirstScenario
+pub mod Refusals
+pub mod Blocks

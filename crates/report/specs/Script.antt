@@ -1,7 +1,7 @@
 -- How the entries of the logs belong to the operations of the scripts.
 use Rattle.std.specs.Prelude.{◌≡◌, ℕ, ◌+◌, ◌-◌, ◌==◌, ◌<◌, ◌≤◌, nat_lt, Bool, true, false, ◌&&◌, ◌||◌, if◌then◌else◌, List, [], ◌∷◌, length, Option, Some, None, slice_get, option_and_then, count_by}
 use Rattle.std.specs.Option.{option_map_or}
-use Rattle.std.specs.List.{AllByRecursion, flat_map}
+use Rattle.std.specs.List.{AllByRecursion}
 use Rattle.domains.specs.declared.by.By.{By}
 use Rattle.scenarios.specs.Ops.{payload_of}
 use Rattle.scenarios.specs.declared.op.Op.{Op}

@@ -1,6 +1,13 @@
 //! The report of a run: its logs, what makes them legal, and the one text that prints them.
 #![tactic(auto)]
 
+mod board_lines;
+mod file_lines;
 mod logs;
+mod printed;
+#[cfg(test)]
+mod tests;
+mod words;
 
 pub use logs::Logs;
+pub use printed::print;

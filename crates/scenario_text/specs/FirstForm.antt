@@ -1,12 +1,11 @@
 -- The scenarios of the first form: one mirrored file, one actor that creates it, writes it at most once, reads it and fails drives.
 use Rattle.std.specs.Prelude.{◌≡◌, ℕ, ◌+◌, ◌*◌, ◌^◌, ◌≤◌, true, List, [], ◌∷◌, length}
-use Rattle.domains.specs.Drive.{Drive, IsDrive}
+use Rattle.domains.specs.Drive.{IsDrive}
 use Rattle.domains.specs.Cluster.{Cluster, IsCluster, is_of}
 use Rattle.domains.specs.Level.{two_copies}
 use Rattle.scenarios.specs.Words.{IsName, IsText}
 use Rattle.scenarios.specs.declared.op.Op.{Op}
 use Rattle.scenarios.specs.declared.op.Op.TheVariants.{Create, WriteText, Read, Fail}
-use Rattle.scenarios.specs.declared.scenario.FileDecl.{FileDecl}
 use Rattle.scenarios.specs.declared.scenario.Scenario.{Scenario}
 
 -- the operation may follow the create: a write of at most a unit from the front, a read, or the loss of a drive of the cluster

@@ -1,6 +1,6 @@
 -- Which scenario a TOML text spells.
 use Rattle.std.specs.Prelude.{codes, ◌≡◌, ℕ, pos, Bool, false, if◌then◌else◌, List, [], ◌∷◌, Some}
-use Rattle.toml.specs.Data.{Data, string, integer, array, table, Items, no_items, item, Members, no_members, member}
+use Rattle.toml.specs.Data.{string, integer, array, table, Items, no_items, item, Members, no_members, member}
 use Rattle.toml.specs.Parse.{parse_document}
 use Rattle.domains.specs.Level.{level_name}
 use Rattle.scenarios.specs.Ops.{op_text}
@@ -16,16 +16,16 @@ default_unit = 131072
 abbrev pub default_workers : ℕ
 default_workers = 1
 
-abbrev file_items : List FileDecl → Items
+abbrev pub file_items : List FileDecl → Items
 file_items [] = no_items
 file_items (f ∷ fs) =
     item (table (member (codes "level") (string (level_name f.level)) (member (codes "name") (string f.name) no_members))) (file_items fs)
 
-abbrev op_items : List FileDecl → List Op → Items
+abbrev pub op_items : List FileDecl → List Op → Items
 op_items files [] = no_items
 op_items files (op ∷ ops) = item (string (op_text files op)) (op_items files ops)
 
-abbrev actor_items : List FileDecl → List (List Op) → Items
+abbrev pub actor_items : List FileDecl → List (List Op) → Items
 actor_items files [] = no_items
 actor_items files (ops ∷ actors) = item (table (member (codes "ops") (array (op_items files ops)) no_members)) (actor_items files actors)
 
@@ -34,7 +34,7 @@ pub record Given : Type 0 where
   pub unit : Bool
   pub workers : Bool
 
-abbrev number_member : Bool → List ℕ → ℕ → Members → Members
+abbrev pub number_member : Bool → List ℕ → ℕ → Members → Members
 number_member given key n rest = if given then member key (integer (pos n)) rest else rest
 
 -- the table that spells the scenario, with or without the keys that may be left out

@@ -24,3 +24,10 @@ pub enum ScenarioFault {
     #[error("out of memory")]
     NoMemory,
 }
+
+/// Why a part of a text is not read.
+#[derive(Clone, Copy, Debug, PartialEq, Eq)]
+pub(crate) enum Stop {
+    Unbuilt,
+    NoMemory,
+}

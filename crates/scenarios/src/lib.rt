@@ -12,3 +12,6 @@ pub use name::Name;
 pub use op::{Op, Script};
 pub use scenario::{FileDecl, Scenario};
 pub use text::Text;
+
+#[cfg(test)]
+mod tests;

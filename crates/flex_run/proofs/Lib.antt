@@ -1,0 +1,12 @@
+pub mod Pushes
+pub mod Scripts
+pub mod Worlds
+pub mod Steps
+pub mod Events
+pub mod GoingOn
+pub mod Stacks
+pub mod Places
+pub mod Doing
+pub mod Starts
+pub mod Runs
+pub mod Results

@@ -1,0 +1,6 @@
+pub mod Words
+pub mod StockOrder
+pub mod Play
+pub mod Standing
+pub mod Stops
+pub mod Run

@@ -1,0 +1,48 @@
+-- What the top call did.
+use Rattle.std.specs.Prelude.{codes, ◌≡◌, ◌⊎◌, ℕ, List, [], ◌∷◌, Option, IsUtf8}
+use Rattle.std.specs.Io.KnownBytes.{Appends}
+use Rattle.scenarios.specs.declared.scenario.Scenario.{Scenario}
+use Rattle.scenario_text.specs.Spelling.{Spells}
+use Rattle.scenario_text.specs.FirstForm.{IsFirstForm}
+use Rattle.report.specs.Script.{HasSerialEpochs}
+use Rattle.report.specs.Legal.{IsLegalRun}
+use Rattle.report.specs.Printed.{printed}
+use Rattle.report.specs.declared.logs.Logs.{Logs}
+
+-- the bytes are UTF-8 and spell this scenario, which is of the first form
+pub record IsPlayed (input : List ℕ) (s : Scenario) : Type 0 where
+  pub utf8 : IsUtf8 input
+  pub spelled : Spells input s
+  pub form : IsFirstForm s
+
+-- the bytes spell some scenario that is played
+abbrev pub IsPlayable : List ℕ → Type 0
+IsPlayable input = (s : Scenario) × IsPlayed input s
+
+-- the logs are those of a legal run of the scenario that the input spells, and actors took turns
+pub record AreLogsOf (input : List ℕ) (logs : Logs) : Type 0 where
+  pub played : IsPlayed input logs.scenario
+  pub legal : IsLegalRun logs
+  pub serial : HasSerialEpochs logs
+
+-- the text prints the logs of a legal run of the scenario that the input spells
+pub record IsReport (input text : List ℕ) : Type 0 where
+  pub logs : Logs
+  pub run : AreLogsOf input logs
+  pub prints : text ≡ printed logs
+
+-- the sink took the printed logs of a legal run of the scenario that the input spells
+pub record RanLegally (input : List ℕ) (before now : Option (List ℕ)) : Type 0 where
+  pub logs : Logs
+  pub run : AreLogsOf input logs
+  pub taken : Appends before now (printed logs)
+
+-- the status is this one, or that of a line that could not be written
+abbrev pub IsOrUnwritten : ℕ → ℕ → Type 0
+IsOrUnwritten status result = (result ≡ status) ⊎ (result ≡ 5) ⊎ (result ≡ 6)
+
+-- the lines that tell why there is no report, each after its status
+abbrev pub fault_lines : List (ℕ × List ℕ)
+fault_lines =
+    (2, codes "fault words\n") ∷ (3, codes "fault scenario unbuilt 0 0\n") ∷ (4, codes "fault read\n")
+    ∷ (7, codes "fault long\n") ∷ (8, codes "fault rack\n") ∷ []

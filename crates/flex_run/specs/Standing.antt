@@ -1,0 +1,74 @@
+-- What holds of a run after its first operations.
+use Rattle.std.specs.Prelude.{◌≡◌, ℕ, ◌+◌, ◌<◌, ◌≤◌, true, List, [], ◌∷◌, length, map, Some, slice_get, count_by}
+use Rattle.std.specs.List.{AllByRecursion}
+use Rattle.flex_io.specs.declared.raw_place.RawPlace.{RawPlace}
+use Rattle.domains.specs.Drive.{Drive, IsDrive}
+use Rattle.domains.specs.Cluster.{Cluster, is_of}
+use Rattle.domains.specs.Level.{two_copies}
+use Rattle.domains.specs.declared.by.By.{By}
+use Rattle.board_log.specs.declared.entry.BoardEntry.{BoardEntry}
+use Rattle.file_core.specs.World.{world_of}
+use Rattle.file_core.specs.Step.{IsLegalLog}
+use Rattle.file_core.specs.Plain.{Shelves, Holding, OneEach, IsUnwritten, free_on}
+use Rattle.file_core.specs.declared.entry.FileEntry.{FileEntry}
+use Rattle.file_core.specs.declared.entry.Told.{Told}
+use Rattle.scenarios.specs.declared.op.Op.{Op}
+use Rattle.scenarios.specs.declared.op.Op.TheVariants as op
+use Rattle.scenarios.specs.declared.scenario.Scenario.{Scenario}
+use Rattle.scenario_text.specs.FirstForm.{IsLaterOp, write_count}
+use Rattle.report.specs.Script.{told_in, FitsScript, board_calls, file_calls, numbers_where, is_for_board, is_for_file, is_earlier}
+use Rattle.report.specs.Legal.{AreLegalOrders}
+use Rattle.flex_run.specs.Play.{slots_taken}
+
+-- the entries of a log without the bytes that their operations write
+abbrev pub entries_of : List Told → List FileEntry
+entries_of log = map (λ t. t.entry) log
+
+-- the entry is one of the first so many operations of the one actor
+pub record IsDone (number : ℕ) (by : By) : Type 0 where
+  pub actor : by.actor ≡ 1
+  pub call : by.call ≤ number
+
+-- the entry's epoch is the number of the board's entries of earlier operations
+abbrev pub IsSerial : List BoardEntry → Told → Type 0
+IsSerial board t = t.entry.epoch ≡ count_by (λ (b : BoardEntry). is_earlier b.by t.entry.by) board
+
+-- the entry's epoch is past each entry of the board that an earlier operation made
+abbrev pub IsPast : List BoardEntry → Told → Type 0
+IsPast board t = (at : ℕ) (o : BoardEntry) → slice_get board at ≡ Some o → o.by.call < t.entry.by.call → at + 1 ≤ t.entry.epoch
+
+-- the logs are those of these first operations of the scenario's script; the file's is legal where the slots tell
+pub record HasLogs (tell : Type 0) (s : Scenario) (done : List Op) (board : List BoardEntry) (log : List Told) : Type 0 where
+  pub orders : AreLegalOrders board [] s
+  pub legal : tell → IsLegalLog (world_of s.shape board two_copies) log
+  pub fits : AllByRecursion (λ (t : Told). FitsScript s 0 t.entry) log
+  pub told : AllByRecursion (λ (t : Told). told_in s t.entry ≡ t) log
+  pub board_calls : board_calls 1 board ≡ numbers_where done 1 is_for_board
+  pub file_calls : file_calls 1 (entries_of log) ≡ numbers_where done 1 (is_for_file 0)
+  pub serial : AllByRecursion (IsSerial board) log
+  pub past : AllByRecursion (IsPast board) log
+  pub board_by : AllByRecursion (λ (b : BoardEntry). IsDone (length done) b.by) board
+  pub file_by : AllByRecursion (λ (t : Told). IsDone (length done) t.entry.by) log
+
+-- the operation is one of the first form
+abbrev pub IsOpOf : Cluster → Op → Type 0
+IsOpOf shape (op.Create file) = file ≡ 0
+IsOpOf shape (op.WriteText file offset text) = IsLaterOp shape (op.WriteText file offset text)
+IsOpOf shape (op.Read file offset len) = IsLaterOp shape (op.Read file offset len)
+IsOpOf shape (op.Fail drive) = IsLaterOp shape (op.Fail drive)
+
+-- how many slots of one drive the operations may take together
+abbrev pub all_taken : List Op → ℕ
+all_taken [] = 0
+all_taken (o ∷ os) = slots_taken o + all_taken os
+
+-- the operations that are left may be done
+pub record MayGoOn {S : Type 0} (place_of : S → RawPlace) (shape : Cluster) (left : List Op) (f : Holding S) (stock : Shelves S) : Type 0 where
+  pub file_shape : f.shape ≡ shape
+  pub stock_shape : stock.shape ≡ shape
+  pub each : AllByRecursion (IsOpOf shape) left
+  pub few : length stock.board + length left ≤ 4096
+  pub one_each : OneEach place_of f stock
+  pub room : (d : Drive) → IsDrive d → is_of shape d ≡ true → all_taken left ≤ free_on place_of d stock
+  pub one_write : write_count left ≤ 1
+  pub unwritten : 1 ≤ write_count left → IsUnwritten f.log

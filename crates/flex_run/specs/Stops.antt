@@ -1,0 +1,38 @@
+-- What is told where no report is.
+use Rattle.std.specs.Prelude.{codes, ◌≡◌, ◌⊎◌, ℕ, List, Result, Err}
+use Rattle.flex_run.specs.declared.stop.Stop.{Stop}
+use Rattle.flex_run.specs.declared.stop.Stop.TheVariants.{Words, Read, Long, Unbuilt, Rack, Memory}
+
+-- the exit status
+abbrev pub status_of : Stop → ℕ
+status_of Words = 2
+status_of Unbuilt = 3
+status_of Read = 4
+status_of Memory = 6
+status_of Long = 7
+status_of Rack = 8
+
+-- the line that tells it
+abbrev pub line_of : Stop → List ℕ
+line_of Words = codes "fault words\n"
+line_of Unbuilt = codes "fault scenario unbuilt 0 0\n"
+line_of Read = codes "fault read\n"
+line_of Memory = codes "fault memory\n"
+line_of Long = codes "fault long\n"
+line_of Rack = codes "fault rack\n"
+
+-- why a source is not read
+abbrev pub IsReadStop : Stop → Type 0
+IsReadStop stop = (stop ≡ Read) ⊎ (stop ≡ Long) ⊎ (stop ≡ Memory)
+
+-- why a text gives no scenario
+abbrev pub IsTextStop : Stop → Type 0
+IsTextStop stop = (stop ≡ Unbuilt) ⊎ (stop ≡ Memory)
+
+-- why a play gives no logs
+abbrev pub IsPlayStop : Stop → Type 0
+IsPlayStop stop = (stop ≡ Rack) ⊎ (stop ≡ Memory)
+
+-- what answers a text that may not be played
+abbrev pub IsRefusal : {T : Type 0} → Result T Stop → Type 0
+IsRefusal result = (result ≡ Err Unbuilt) ⊎ (result ≡ Err Read) ⊎ (result ≡ Err Memory)

@@ -1,0 +1,187 @@
+//! The play of a scenario by its one actor, over slots from a rack.
+
+ghost use Rattle.std.specs.Prelude.{List, ◌≡◌, ◌<◌, ◌≤◌, ◌^◌, ◌+◌, [], ◌∷◌, length, IsSome, IfOk, OnOk};
+ghost use Rattle.domains.specs.Level.{two_copies};
+ghost use Rattle.board_log.specs.declared.entry.BoardEntry.{BoardEntry};
+ghost use Rattle.file_core.specs.Plain.{AllTell, OneEach, HasRoom};
+ghost use Rattle.scenarios.specs.declared.op.Op.{Op};
+ghost use Rattle.scenario_text.specs.FirstForm.{IsFirstForm};
+ghost use Rattle.report.specs.Script.{HasSerialEpochs};
+ghost use Rattle.report.specs.Legal.{IsLegalRun};
+ghost use Rattle.flex_run.specs.Play.{slots_taken, by_call, MayDo, Does};
+ghost use Rattle.flex_run.specs.Standing.{entries_of, HasLogs, MayGoOn};
+
+use crate::slots::{put_all, take_all};
+use board_log::BoardEntry;
+use domains::{By, Level};
+use file_core::plain::{PlainFault, PlainFile, PlainOp, PlainParts, Stock, StockParts};
+use flex_io::{Fault, Gate, Point, Rack, Slot, Steady};
+use lists::List;
+use report::Logs;
+use scenarios::{Op, Scenario, Text};
+use std::alloc::{AllocError, Global};
+use thiserror::Error;
+
+/// Why a play gave up: the rack or a slot failed, or memory ran out.
+#[derive(Clone, Copy, Debug, PartialEq, Eq, Error)]
+pub enum PlayFault {
+    #[error("the rack or a slot failed")]
+    Rack,
+    #[error("out of memory")]
+    NoMemory,
+}
+
+impl From<Fault> for PlayFault {
+    fn from(fault: Fault) -> PlayFault {
+        match fault {
+            Fault::Failed => PlayFault::Rack,
+            Fault::NoMemory => PlayFault::NoMemory,
+        }
+    }
+}
+
+impl From<PlainFault> for PlayFault {
+    fn from(fault: PlainFault) -> PlayFault {
+        match fault {
+            PlainFault::Slot => PlayFault::Rack,
+            PlainFault::NoMemory => PlayFault::NoMemory,
+        }
+    }
+}
+
+/// Plays a scenario of the first form, and puts all slots back to the rack (docs/ARCHITECTURE.md, "A run"). After a
+/// fault nothing is said of which slots came back.
+pub fn play_serial<R: Rack, G: Gate>(
+    alloc: Global,
+    scenario: Scenario,
+    rack: &mut R,
+    gate: &G,
+) -> Result<Logs, PlayFault>
+where
+    R::Piece: Steady,
+    requires { IsFirstForm scenario }
+    ensures scenario { IfOk result (λ logs. logs.scenario ≡ scenario) }
+    ensures legal { IfOk result (λ logs. IsSome (R.back rack.old) → IsLegalRun logs) }
+    ensures serial { IfOk result HasSerialEpochs }
+{
+    let slots = take_all(alloc, scenario.shape, rack)?;
+    let mut stock = Stock::new(alloc, scenario.shape, slots);
+    let mut file = PlainFile::new(alloc, scenario.shape, only_level(&scenario));
+    play_script(alloc, &scenario, &mut file, &mut stock, gate)?;
+    close(alloc, scenario, file, stock, rack)
+}
+
+/// Plays the script of the one actor from its begin.
+fn play_script<S: Slot + Drop + Steady, G: Gate>(
+    alloc: Global,
+    scenario: &Scenario,
+    file: &mut PlainFile<S>,
+    stock: &mut Stock<S>,
+    gate: &G,
+) -> Result<(), PlainFault>
+    requires form { IsFirstForm scenario.now }
+    requires file { file.old ≡ record { shape = scenario.now.shape; log = []; units = []; inode = [] } }
+    requires left { (script : List Op) → scenario.now.actors ≡ script ∷ [] → MayGoOn S.place_of scenario.now.shape script file.old stock.old }
+    requires board { stock.old.board ≡ [] }
+    ensures { OnOk result ((script : List Op) → scenario.now.actors ≡ script ∷ []
+        → HasLogs (AllTell S.content file.old stock.old) scenario.now script stock.new.board file.new.log) }
+{
+    let script = only_script(scenario);
+    let mut call = 0;
+    for op in script {
+        call += 1;
+        play_op(alloc, By { actor: 1, call }, op, file, stock)?;
+        gate.pass(Point::AfterDone, 1);
+    }
+    Ok(())
+}
+
+/// The script of the one actor.
+fn only_script(scenario: &Scenario) -> &[Op]
+    requires { IsFirstForm scenario.now }
+    ensures { scenario.now.actors ≡ result.now ∷ [] }
+{
+    scenario.actors.as_slice()[0].as_slice()
+}
+
+/// The level of the one file.
+fn only_level(scenario: &Scenario) -> Level
+    requires { IsFirstForm scenario.now }
+    ensures { result ≡ two_copies }
+{
+    scenario.files.as_slice()[0].level
+}
+
+/// Plays one operation.
+fn play_op<S: Slot + Drop + Steady>(
+    alloc: Global,
+    by: By,
+    op: &Op,
+    file: &mut PlainFile<S>,
+    stock: &mut Stock<S>,
+) -> Result<(), PlainFault>
+    requires shape { stock.old.shape ≡ file.old.shape }
+    requires within { length stock.old.board < 2 ^ 32 }
+    requires may { MayDo op.now file.old stock.old }
+    requires one_each { OneEach S.place_of file.old stock.old }
+    requires room { HasRoom S.place_of (slots_taken op.now) stock.old }
+    ensures does { OnOk result (Does op.now S.place_of by (AllTell S.content file.old stock.old) file.old stock.old file.new stock.new) }
+    ensures tell { OnOk result (AllTell S.content file.old stock.old → AllTell S.content file.new stock.new) }
+{
+    match op {
+        Op::Create { .. } => file.play(alloc, by, &PlainOp::Create, stock),
+        Op::WriteText { text, .. } => {
+            let bytes = bytes_of(alloc, text).map_err(|_| PlainFault::NoMemory)?;
+            file.play(alloc, by, &PlainOp::Write { bytes }, stock)
+        }
+        Op::Read { offset, len, .. } => {
+            let read = PlainOp::Read {
+                offset: *offset,
+                len: *len,
+            };
+            file.play(alloc, by, &read, stock)
+        }
+        Op::Fail { drive } => match stock.fail(by, *drive) {
+            Ok(_effect) => Ok(()),
+            Err(AllocError) => Err(PlainFault::NoMemory),
+        },
+    }
+}
+
+/// The bytes of a payload.
+fn bytes_of(alloc: Global, text: &Text) -> Result<List<u8>, AllocError>
+    ensures { IfOk result (λ bytes. bytes ≡ text.now) }
+{
+    Ok(List::from_vec(text.as_str().as_bytes().to_vec(alloc)?))
+}
+
+/// Puts all slots back, the file's group first, then its inode, the retired slots and the free ones, and gives the logs.
+fn close<R: Rack>(
+    alloc: Global,
+    scenario: Scenario,
+    file: PlainFile<R::Piece>,
+    stock: Stock<R::Piece>,
+    rack: &mut R,
+) -> Result<Logs, PlayFault>
+where
+    R::Piece: Steady,
+    ensures { IfOk result (λ logs. logs ≡ record { scenario = scenario; board = stock.board; files = entries_of file.log ∷ [] }) }
+{
+    let PlainParts { log, units, inode } = file.close(alloc)?;
+    let StockParts {
+        log: board,
+        retired,
+        free,
+    } = stock.close();
+    put_all(rack, units)?;
+    put_all(rack, inode)?;
+    put_all(rack, retired)?;
+    put_all(rack, free)?;
+    let mut files = List::new(alloc);
+    files.push(log).map_err(|_| PlayFault::NoMemory)?;
+    Ok(Logs {
+        scenario,
+        board,
+        files,
+    })
+}

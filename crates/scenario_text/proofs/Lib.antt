@@ -1,0 +1,6 @@
+mod Views
+mod Numbers
+mod Operations
+mod Scripts
+mod Tails
+mod Documents

@@ -1,0 +1,15 @@
+pub mod Sittings
+pub mod Moves
+pub mod Drawing
+pub mod Taking
+pub mod Notings
+pub mod Followings
+pub mod Laws
+pub mod Leaving
+pub mod Viewing
+pub mod Counts
+pub mod Dealing
+pub mod Joining
+pub mod Ending
+pub mod Seating
+pub mod Closing
