@@ -1,6 +1,7 @@
 -- Slots taken in stock order, and put back.
 use Rattle.std.proofs.Common.{◌≡◌, ℕ, ◌+◌, ◌-◌, ◌<◌, Bool, true, false, cond, List, [], ◌∷◌, ◌++◌, Option, None, Some, IsSome, is_none, refl, ap, sym, ◌∙◌, subst, arith, append_assoc, add-one}
-use Rattle.std.proofs.lemmas.List.{append-nil}
+use Rattle.std.proofs.lemmas.List.{append-nil, map-append}
+use Rattle.std.proofs.lemmas.List.Sums.{sum_by-append}
 use Rattle.flex_io.specs.declared.raw_place.RawPlace.{RawPlace}
 use Rattle.flex_io.specs.declared.rack.Returned.{Returned}
 use Rattle.flex_io.specs.Racks.{TakesBack}
@@ -96,6 +97,27 @@ PutsBack-push (Some before) now next place_of content slots x h back = λ told.
     (append_assoc before (returned_of place_of content slots) (record { place = place_of x; bytes = told_or_none (content x) } ∷ [])
     ∙ ap (λ (l : List Returned). before ++ l) (sym (map-push (λ y. let made : Returned = record { place = place_of y; bytes = told_or_none (content y) } in made) slots x)))
 
+Tell-both : {S : Type 0} (content : S → Option (List ℕ)) (xs ys : List S) → Tell content (xs ++ ys) → Tell content xs × Tell content ys
+Tell-both content xs ys h =
+    let sum = sum_by-append (λ y. cond (is_none (content y)) 1 0) xs ys in
+    (omega (arith, sum, h), omega (arith, sum, h))
+
+-- some slots came back, and then others
+pub PutsBack-append : {S : Type 0} (old mid now : Option (List Returned)) (place_of : S → RawPlace) (content : S → Option (List ℕ)) (xs ys : List S)
+    → PutsBack old mid place_of content xs → PutsBack mid now place_of content ys → PutsBack old now place_of content (xs ++ ys)
+PutsBack-append None mid now place_of content xs ys h k = tt
+PutsBack-append (Some before) mid now place_of content xs ys h k = λ told.
+    let both = Tell-both content xs ys told in
+    let rest = subst (λ (o : Option (List Returned)). PutsBack o now place_of content ys) (h both.0) k in
+    rest both.1
+    ∙ ap (λ (l : List Returned). Some l)
+    (append_assoc before (returned_of place_of content xs) (returned_of place_of content ys)
+    ∙ ap (λ (l : List Returned). before ++ l) (sym (map-append (λ y. let made : Returned = record { place = place_of y; bytes = told_or_none (content y) } in made) xs ys)))
+
 pub PutsBack-none : {S : Type 0} (old : Option (List Returned)) (place_of : S → RawPlace) (content : S → Option (List ℕ)) → PutsBack old old place_of content []
 PutsBack-none None place_of content = tt
 PutsBack-none (Some before) place_of content = λ told. ap (λ (l : List Returned). Some l) (sym (append-nil before))
+
+pub PutsBack-same : {S : Type 0} (old now : Option (List Returned)) (place_of : S → RawPlace) (content : S → Option (List ℕ)) (xs ys : List S) → xs ≡ ys
+    → PutsBack old now place_of content xs → PutsBack old now place_of content ys
+PutsBack-same {S = S} old now place_of content xs ys same h = subst (λ (l : List S). PutsBack old now place_of content l) same h

@@ -10,3 +10,6 @@ mod words;
 pub use play::{PlayFault, play_serial};
 pub use top::flex;
 pub use words::is_run;
+
+#[cfg(test)]
+mod tests;

@@ -1,6 +1,6 @@
 //! The play of a scenario by its one actor, over slots from a rack.
 
-ghost use Rattle.std.specs.Prelude.{List, ◌≡◌, ◌<◌, ◌≤◌, ◌^◌, ◌+◌, [], ◌∷◌, length, IsSome, IfOk, OnOk};
+ghost use Rattle.std.specs.Prelude.{List, ◌≡◌, ◌<◌, ◌≤◌, ◌^◌, ◌+◌, [], ◌∷◌, length, ◌++◌, IsSome, IfOk, OnOk};
 ghost use Rattle.domains.specs.Level.{two_copies};
 ghost use Rattle.board_log.specs.declared.entry.BoardEntry.{BoardEntry};
 ghost use Rattle.file_core.specs.Plain.{AllTell, OneEach, HasRoom};
@@ -8,6 +8,7 @@ ghost use Rattle.scenarios.specs.declared.op.Op.{Op};
 ghost use Rattle.scenario_text.specs.FirstForm.{IsFirstForm};
 ghost use Rattle.report.specs.Script.{HasSerialEpochs};
 ghost use Rattle.report.specs.Legal.{IsLegalRun};
+ghost use Rattle.flex_run.specs.StockOrder.{PutsBack};
 ghost use Rattle.flex_run.specs.Play.{slots_taken, by_call, MayDo, Does};
 ghost use Rattle.flex_run.specs.Standing.{entries_of, HasLogs, MayGoOn};
 
@@ -165,7 +166,9 @@ fn close<R: Rack>(
 ) -> Result<Logs, PlayFault>
 where
     R::Piece: Steady,
-    ensures { IfOk result (λ logs. logs ≡ record { scenario = scenario; board = stock.board; files = entries_of file.log ∷ [] }) }
+    ensures logs { IfOk result (λ logs. logs ≡ record { scenario = scenario; board = stock.board; files = entries_of file.log ∷ [] }) }
+    ensures back { OnOk result (PutsBack (R.back rack.old) (R.back rack.new) R.Piece.place_of R.Piece.content
+        (file.units ++ (file.inode ++ (stock.retired ++ stock.free)))) }
 {
     let PlainParts { log, units, inode } = file.close(alloc)?;
     let StockParts {

@@ -26,7 +26,7 @@ returns-clause-legal g c =
     subst (λ (l : Logs). IsLegalRun l) (sym is)
     (IsLegalRun-run _ c.args.scenario c.requires.script c.play_script.new.stock.board c.play_script.new.file.log c.requires c.requires.actors
     (c.in_ok-play_script.ensures c.requires.script c.requires.actors) tell))
-    c.close.ensures
+    c.close.ensures.logs
 
 pub returns-clause-serial : goal.returns-clause-serial
 returns-clause-serial g c =
@@ -36,4 +36,4 @@ returns-clause-serial g c =
     subst (λ (l : Logs). HasSerialEpochs l) (sym is)
     (HasSerialEpochs-run _ c.args.scenario c.requires.script c.play_script.new.stock.board c.play_script.new.file.log
     (c.in_ok-play_script.ensures c.requires.script c.requires.actors)))
-    c.close.ensures
+    c.close.ensures.logs
