@@ -1,5 +1,5 @@
 -- The protection levels.
-use Rattle.std.specs.Prelude.{codes, ℕ, ◌==◌, Bool, ◌&&◌, if◌then◌else◌, List, [], ◌∷◌, map, Contains}
+use Rattle.std.specs.Prelude.{codes, ℕ, ◌+◌, ◌*◌, ◌≤◌, ◌==◌, Bool, ◌&&◌, if◌then◌else◌, List, [], ◌∷◌, map, Contains}
 
 -- a level: at most w data units in a group, m correction units, at most k units of a group on a node
 pub record Row : Type 0 where
@@ -38,3 +38,7 @@ name_in (named ∷ rest) level = if same_row named.0 level then named.1 else nam
 -- the name of a level
 abbrev pub level_name : Row → List ℕ
 level_name level = name_in named_levels level
+
+-- the level bears the loss of so many nodes and so many further drives
+abbrev pub Bears : Row → ℕ → ℕ → Type 0
+Bears level nodes drives = nodes * level.k + drives ≤ level.m

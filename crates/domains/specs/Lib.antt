@@ -4,3 +4,4 @@ pub mod Level
 pub mod DriveSet
 pub mod Room
 pub mod AtLevel
+pub mod Losses

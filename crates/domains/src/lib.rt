@@ -5,17 +5,20 @@ mod by;
 mod drive;
 mod drive_set;
 mod group;
+pub mod laws;
 mod level;
 mod node;
 mod place;
 mod room;
 mod shape;
+#[cfg(test)]
+mod tests;
 
 pub use by::By;
 pub use drive::DriveId;
 pub use drive_set::DriveSet;
 pub use group::{Group, Lost};
-pub use level::Level;
+pub use level::{Level, NotALevel};
 pub use node::NodeId;
 pub use place::Place;
 pub use room::{TooFew, width};
