@@ -1,10 +1,10 @@
 -- The board's log as it grows.
-use Rattle.std.proofs.Common.{◌≡◌, ℕ, ◌+◌, ◌≤◌, Bool, true, false, not, ◌&&◌, List, [], ◌∷◌, ◌++◌, length, take, refl, sym, ap, ◌∙◌, arith}
+use Rattle.std.proofs.Common.{◌≡◌, ℕ, ◌+◌, ◌≤◌, Bool, true, false, not, ◌&&◌, List, [], ◌∷◌, ◌++◌, length, take, refl, sym, ap, subst, ◌∙◌, append_assoc, append-nil}
 use Rattle.std.proofs.Math.Seq.{take-length}
 use Rattle.std.proofs.lemmas.List.{take-append-le}
 use Rattle.domains.specs.Drive.{Drive, same_drive}
 use Rattle.domains.specs.Cluster.{Cluster, is_of}
-use Rattle.board_log.specs.Board.{after_order, state_from, state_after, up_after, is_up, is_gone}
+use Rattle.board_log.specs.Board.{after_order, state_from, state_after, up_after, gone_after, is_up, is_gone, AreBoardSteps, IsBoardStep}
 use Rattle.board_log.specs.declared.entry.State.{State}
 use Rattle.board_log.specs.declared.entry.State.TheVariants.{Up, Down, Gone}
 use Rattle.board_log.specs.declared.entry.BoardEntry.{BoardEntry}
@@ -20,6 +20,17 @@ pub up_after-all : (shape : Cluster) (log : List BoardEntry) (d : Drive)
     → up_after shape log (length log) d ≡ is_of shape d && is_up (state_after log d)
 up_after-all shape log d = ap (λ (l : List BoardEntry). is_of shape d && is_up (state_after l d)) (take-length log)
 
+pub gone_after-all : (shape : Cluster) (log : List BoardEntry) (d : Drive)
+    → gone_after shape log (length log) d ≡ is_of shape d && is_gone (state_after log d)
+gone_after-all shape log d = ap (λ (l : List BoardEntry). is_of shape d && is_gone (state_after l d)) (take-length log)
+
 -- later entries change nothing before them
 pub take-before : (log more : List BoardEntry) (epoch : ℕ) → epoch ≤ length log → take epoch (log ++ more) ≡ take epoch log
 take-before log more epoch within = take-append-le epoch log more within
+
+-- a legal log with one more legal entry
+pub AreBoardSteps-push : (shape : Cluster) (before log : List BoardEntry) (e : BoardEntry) → AreBoardSteps shape before log → IsBoardStep shape (before ++ log) e
+    → AreBoardSteps shape before (log ++ e ∷ [])
+AreBoardSteps-push shape before [] e legal step = (subst (λ (l : List BoardEntry). IsBoardStep shape l e) (append-nil before) step, tt)
+AreBoardSteps-push shape before (x ∷ xs) e legal step =
+    (legal.0, AreBoardSteps-push shape (before ++ x ∷ []) xs e legal.1 (subst (λ (l : List BoardEntry). IsBoardStep shape l e) (sym (append_assoc before (x ∷ []) xs)) step))

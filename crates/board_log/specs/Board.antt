@@ -1,5 +1,5 @@
 -- The states of the drives after the entries of the board's log.
-use Rattle.std.specs.Prelude.{◌≡◌, ℕ, zero, suc, ◌==◌, ◌≤◌, Bool, true, false, ◌&&◌, if◌then◌else◌, List, [], ◌∷◌, take}
+use Rattle.std.specs.Prelude.{◌≡◌, ℕ, zero, suc, ◌==◌, ◌≤◌, Bool, true, false, ◌&&◌, if◌then◌else◌, List, [], ◌∷◌, ◌++◌, take}
 use Rattle.domains.specs.Drive.{Drive, same_drive}
 use Rattle.domains.specs.Cluster.{Cluster, is_of}
 use Rattle.board_log.specs.declared.entry.State.{State}
@@ -52,6 +52,10 @@ state_after log d = state_from log d state.Up
 abbrev pub up_after : Cluster → List BoardEntry → ℕ → Drive → Bool
 up_after shape log epoch d = is_of shape d && is_up (state_after (take epoch log) d)
 
+-- the drive is one of the cluster that is gone after the first so many entries
+abbrev pub gone_after : Cluster → List BoardEntry → ℕ → Drive → Bool
+gone_after shape log epoch d = is_of shape d && is_gone (state_after (take epoch log) d)
+
 -- what an order tells that finds one state and leaves another
 abbrev pub change_of : State → State → Effect
 change_of state.Up state.Up = effect.NoChange state.Up
@@ -81,9 +85,18 @@ abbrev pub IsWithin : Cluster → Order → Type 0
 IsWithin shape (order.Fail d) = is_of shape d ≡ true
 IsWithin shape (order.Down d) = is_of shape d ≡ true
 IsWithin shape (order.Up d) = is_of shape d ≡ true
-IsWithin shape (order.FailNode n) = n ≤ shape.nodes
+IsWithin shape (order.FailNode n) = (1 ≤ n) × (n ≤ shape.nodes)
 
 -- the entry is legal after the log: its order is within the cluster, and its effect is what the order does
 pub record IsBoardStep (shape : Cluster) (log : List BoardEntry) (entry : BoardEntry) : Type 0 where
   pub within : IsWithin shape entry.order
   pub effect : entry.effect ≡ effect_of shape log entry.order
+
+-- each of these entries is legal after those before it
+abbrev pub AreBoardSteps : Cluster → List BoardEntry → List BoardEntry → Type 0
+AreBoardSteps shape before [] = Unit {0}
+AreBoardSteps shape before (e ∷ es) = IsBoardStep shape before e × AreBoardSteps shape (before ++ e ∷ []) es
+
+-- each entry of the log is legal
+abbrev pub IsLegalBoardLog : Cluster → List BoardEntry → Type 0
+IsLegalBoardLog shape log = AreBoardSteps shape [] log
