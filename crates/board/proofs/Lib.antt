@@ -1,0 +1,5 @@
+mod Stamping
+mod Keeping
+mod Opening
+mod Changing
+pub mod Viewing

@@ -1,0 +1,6 @@
+-- What tests stand on.
+use Rattle.domains.specs.Cluster.{Cluster}
+
+-- two nodes of two drives
+abbrev pub small_shape : Cluster
+small_shape = record { nodes = 2; drives = 2; slots = 1; unit = 8 }

@@ -1,0 +1,5 @@
+pub mod States
+pub mod History
+pub mod Kept
+pub mod Views
+pub mod Examples
