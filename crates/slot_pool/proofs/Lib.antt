@@ -1,0 +1,3 @@
+mod Turning
+mod Opening
+pub mod Laws

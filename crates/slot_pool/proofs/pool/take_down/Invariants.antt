@@ -1,0 +1,12 @@
+use Rattle.std.proofs.Common.{◌≡◌, ◌≤◌, ◌+◌, ◌++◌, reverse, vec_len, vec_capacity}
+use Rattle.slot_pool.proofs.pool.take_down.Given as goal
+
+abbrev pub invariant-loop-slot : goal.invariant-loop-slot
+invariant-loop-slot g l = record {
+  turned : reverse l.initial.free.items ≡ l.room.items ++ reverse l.free.items;
+  fits : vec_len l.room + vec_len l.free ≤ vec_capacity l.room;
+  capacity : vec_capacity l.free ≡ vec_capacity l.initial.free;
+}
+
+abbrev pub decreases-loop-slot : goal.decreases-loop-slot
+decreases-loop-slot g l = vec_len l.free

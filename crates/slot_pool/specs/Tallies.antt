@@ -1,0 +1,42 @@
+-- What a pool counts for its seats, and how the counts add up.
+use Rattle.std.specs.Prelude.{◌≡◌, ℕ, ◌+◌, ◌-◌, ◌%◌, ◌^◌, ◌≤◌, min, List, [], ◌∷◌, slice_index_or, slice_set}
+use Rattle.std.specs.List.{sum_by}
+use Rattle.slot_pool.specs.declared.tally.Tally.{Tally}
+
+abbrev pub no_tally : Tally
+no_tally = record { taken = 0; given = 0; empties = 0; drawn = 0 }
+
+-- the seat took so many slots
+abbrev pub took : ℕ → Tally → Tally
+took slots t = record t { taken = (t.taken + slots) % 2 ^ 64; drawn = min (t.drawn + slots) (2 ^ 64 - 1) }
+
+-- it gave a slot
+abbrev pub gave : Tally → Tally
+gave t = record t { given = (t.given + 1) % 2 ^ 64 }
+
+-- it was answered that no slot was free
+abbrev pub found_none : Tally → Tally
+found_none t = record t { empties = min (t.empties + 1) (2 ^ 64 - 1) }
+
+-- the tally of the seat of this number
+abbrev pub tally_at : List Tally → ℕ → Tally
+tally_at tallies seat = slice_index_or tallies seat no_tally
+
+-- the tallies, with what a call has counted for the seat of this number
+abbrev pub with_tally : ℕ → (Tally → Tally) → List Tally → List Tally
+with_tally seat counted tallies = slice_set tallies seat (counted (tally_at tallies seat))
+
+-- the four numbers of a tally
+abbrev pub numbers_of : Tally → List ℕ
+numbers_of t = t.taken ∷ t.given ∷ t.empties ∷ t.drawn ∷ []
+
+-- the seat gave as many slots as it took
+abbrev pub IsEven : Tally → Type 0
+IsEven t = t.taken ≡ t.given
+
+-- the free slots of a drive with so many and what all seats took and gave add up: modulo 2^64 to the drive's slots, and as
+-- far as the counts that stop tell to at least these. Where a seat found none, the seats took them all.
+pub record AddUp (slots free : ℕ) (tallies : List Tally) : Type 0 where
+  pub balanced : (free + sum_by (λ t. t.taken) tallies) % 2 ^ 64 ≡ (slots + sum_by (λ t. t.given) tallies) % 2 ^ 64
+  pub covered : slots ≤ free + sum_by (λ t. t.drawn) tallies
+  pub emptied : (seat : ℕ) → 1 ≤ (tally_at tallies seat).empties → slots ≤ sum_by (λ t. t.drawn) tallies
