@@ -32,7 +32,7 @@ mirror generation a b = record { generation = generation; n = 1; m = 1; places =
 abbrev told : ℕ → FileEvent → List ℕ → Told
 told call event payload = record { entry = record { by = record { actor = 1; call = call }; epoch = 0; event = event }; payload = payload }
 
-abbrev log : List Told
+abbrev pub log : List Told
 log =
     told 1 (Created (mirror 0 (spot 1 0) (spot 2 0))) []
     ∷ told 2 (Written 0 5 5 (record { old = []; new = mirror 1 (spot 2 1) (spot 1 1) ∷ []; inode = mirror 2 (spot 1 2) (spot 2 2) })) (codes "hello")

@@ -1,5 +1,5 @@
 mod FirstScenario
-mod Orders
+pub mod Orders
 mod Rooms
 mod Drawing
 mod Growth
@@ -7,3 +7,11 @@ mod Turns
 mod InodeLengths
 mod Rewriting
 mod Ranges
+mod Faults
+mod Sorting
+mod Keeping
+mod Agreement
+mod Determining
+mod Rooted
+mod FirstLoss
+mod Telling

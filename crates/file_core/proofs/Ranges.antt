@@ -1,5 +1,5 @@
 -- Ranges of a file of one unit.
-use Rattle.std.proofs.Common.{◌≡◌, ℕ, ◌+◌, ◌-◌, ◌*◌, ◌<◌, ◌≤◌, min, Bool, true, false, ◌&&◌, ◌||◌, cond, ltb, List, [], ◌∷◌, ◌++◌, length, replicate, take, drop, Option, Some, None, IsSome, is_none, refl, sym, ap, subst, ◌∙◌, inl, inr, arith}
+use Rattle.std.proofs.Common.{◌≡◌, ℕ, ◌+◌, ◌-◌, ◌*◌, ◌<◌, ◌≤◌, min, Bool, true, false, ◌&&◌, ◌||◌, cond, ltb, List, [], ◌∷◌, ◌++◌, length, replicate, take, drop, All, Option, Some, None, IsSome, is_none, refl, sym, ap, subst, ◌∙◌, inl, inr, arith}
 use Rattle.std.proofs.lemmas.Bool.{cases_lt, lt-ltb, le-ltb, and_from, and_left, and_right}
 use Rattle.std.proofs.lemmas.List.{take-append-le, drop-append-le, take_min, length-drop}
 use Rattle.flex_io.specs.Slots.{Holds}
@@ -21,6 +21,7 @@ use Rattle.file_core.specs.Slots.{spot_of, is_place_of, one_if, count_at, Tell}
 use Rattle.file_core.specs.Mirrors.{mirror_of, IsMirror, AreCopies, AreTold, SameSlots}
 use Rattle.file_core.specs.LiveMirrors.{live_pair, lost_mirror}
 use Rattle.file_core.specs.Plain.{Shelves, AllTell, Plays}
+use Rattle.galois.specs.Field.{IsByte}
 use Rattle.inode_codec.specs.Inode as inode_words
 use Rattle.file_core.specs.Stored as stored_words
 use Rattle.file_core.specs.FileInside.{is_present, inode_text, holding, layout_of, units_of, inode_slots, HoldsFile, KeepsFile, HoldsBytes, SameStanding, Played}
@@ -193,6 +194,7 @@ module _ {S : Type 0} (place_of : S → RawPlace) (content : S → Option (List 
         inside = subst (λ (l : List Told). KeepsFile place_of content shape l new) (sym grown) (record {
           layout = layout_from-push log t two_copies _ ∙ inside.layout ∙ same_layout old new same;
           holds = subst (HoldsFile place_of content shape new) (sym (bytes_from-push log t [])) (same_holds shape old new (bytes_after log) same inside.holds);
+          bytes = subst (All IsByte) (sym (bytes_from-push log t [])) inside.bytes;
         });
         tell = λ tell.
             let both = same_tell old new same tell.units tell.inode in

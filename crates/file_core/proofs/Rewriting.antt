@@ -1,5 +1,5 @@
 -- What is true after the write of a plain file.
-use Rattle.std.proofs.Common.{◌≡◌, ◌≢◌, ℕ, zero, suc, ◌+◌, ◌-◌, ◌*◌, ◌/◌, ◌<◌, ◌≤◌, min, max, Bool, true, false, not, ◌&&◌, ◌||◌, cond, leb, List, [], ◌∷◌, ◌++◌, length, replicate, take, drop, count_by, Option, Some, None, IsSome, is_none, eqb, refl, sym, ap, subst, ◌∙◌, inl, inr, arith, append-nil, lit≤}
+use Rattle.std.proofs.Common.{◌≡◌, ◌≢◌, ℕ, zero, suc, ◌+◌, ◌-◌, ◌*◌, ◌/◌, ◌<◌, ◌≤◌, min, max, Bool, true, false, not, ◌&&◌, ◌||◌, cond, leb, List, [], ◌∷◌, ◌++◌, length, replicate, take, drop, count_by, All, Option, Some, None, IsSome, is_none, eqb, refl, sym, ap, subst, ◌∙◌, inl, inr, arith, append-nil, lit≤}
 use Rattle.std.proofs.Math.Nat.{div-eq_of_lt}
 use Rattle.std.proofs.Math.Seq.{drop-nil}
 use Rattle.std.proofs.lemmas.Bool.{cond-true, le-leb, or_from, eq-eqb, true≢false, false≢true}
@@ -13,6 +13,7 @@ use Rattle.domains.specs.declared.by.By.{By}
 use Rattle.domains.specs.declared.group.Group.{Group}
 use Rattle.board_log.specs.Board.{up_after}
 use Rattle.board_log.specs.declared.entry.BoardEntry.{BoardEntry}
+use Rattle.galois.specs.Field.{IsByte}
 use Rattle.inode_codec.specs.Inode.{inode_bytes}
 use Rattle.file_core.specs.Moments.{last_moment}
 use Rattle.file_core.specs.Bytes.{bytes_after, bytes_after_event, overwrite}
@@ -24,7 +25,7 @@ use Rattle.domains.specs.declared.group.Lost.{Lost}
 use Rattle.file_core.specs.Writing.{chunk_count}
 use Rattle.file_core.specs.Step.{IsNewPlace, Writes, IsEvent}
 use Rattle.file_core.specs.Slots.{spot_of, is_place_of, one_if, count_at, Tell}
-use Rattle.file_core.specs.Plain.{Shelves, Holding, Plays, AllTell, slots_for, count_all, free_on, OneEach, HasRoom, IsUnwritten, is_placing}
+use Rattle.file_core.specs.Plain.{Shelves, Holding, Plays, AllTell, slots_for, count_all, free_on, OneEach, HasRoom, IsUnwritten, is_placing, SortsSlots}
 use Rattle.file_core.specs.Mirrors.{slots_of, mirror_of, IsMirror, AreCopies}
 use Rattle.file_core.specs.StockWords.{Draws, SameFree, SameBeside, Draws2, Releases}
 use Rattle.file_core.specs.FileInside.{is_present, holding, layout_of, inode_text, HoldsFile, KeepsFile, Played, Moves, MayRelease}
@@ -39,6 +40,7 @@ use Rattle.file_core.specs.declared.plain.standing.Standing.TheVariants.{Absent,
 use Rattle.file_core.proofs.Growth.{layout_from-push, bytes_from-push}
 use Rattle.file_core.proofs.Orders.{same_drive-refl}
 use Rattle.file_core.proofs.Rooms.{room_of_same}
+use Rattle.file_core.proofs.Sorting.{same_sorted, drawn_sorted, sorted_then}
 use Rattle.file_core.proofs.Turns.{and-true, apart_once, count_pair, tell_pair, mirror_level, new_place, apart_spots}
 
 -- an event that puts no group into the map leaves an empty map
@@ -222,17 +224,17 @@ module _ {S : Type 0} (place_of : S → RawPlace) (content : S → Option (List 
   -- the bytes were written
   pub write_played : (by : By) (shape : Cluster) (log later : List Told) (bytes : List ℕ) (stock ready mid rest : Shelves S) (old units inode : Pair S)
       → stock.shape ≡ shape → ready.shape ≡ stock.shape → ready.board ≡ stock.board → ready.free ≡ stock.free → ready.retired ≡ stock.retired
-      → IsCluster shape → 1 ≤ length bytes → length bytes ≤ shape.unit
+      → IsCluster shape → 1 ≤ length bytes → length bytes ≤ shape.unit → All IsByte bytes
       → 2 ≤ room_of two_copies shape (up_after shape stock.board (length stock.board))
       → later ≡ log ++ record {
         entry = record { by = by; epoch = length stock.board; event = event.Written 0 (length bytes) (length bytes) (change_of units inode) };
         payload = bytes;
       } ∷ []
       → KeepsFile place_of content shape log (Empty old) → OneEach place_of (holding shape log (Empty old)) stock
-      → Draws2 place_of content ready mid bytes units inode → SameBeside ready mid → Releases mid rest old
+      → Draws2 place_of content ready mid bytes units inode → SameBeside ready mid → Releases place_of mid rest old
       → Played place_of content by (plain.Write bytes) shape log later (Empty old) (Written (length bytes) units inode) stock rest
   write_played by shape log later bytes stock ready mid rest old units inode same_shape ready_shape ready_board ready_free ready_retired
-      is some fits usable grown inside one drawn beside released =
+      is some fits all usable grown inside one drawn beside released =
       let u = drawn.units_drawn in
       let v = drawn.inode_drawn in
       let shape_ready : ready.shape ≡ shape = ready_shape ∙ same_shape in
@@ -282,6 +284,7 @@ module _ {S : Type 0} (place_of : S → RawPlace) (content : S → Option (List 
             subst (λ (k : Cluster). AreCopies content units (bytes ++ replicate (k.unit - length bytes) 0)) shape_ready u.copies,
             subst (λ (k : Cluster). AreCopies content inode (inode_bytes (record { level = two_copies; unit = k.unit; size = length bytes; groups = mirror_of place_of 1 units ∷ [] }))) shape_ready v.copies,
           );
+          bytes = subst (All IsByte) (sym same_bytes) all;
         });
         tell = λ told.
             let told_units = u.tell (subst (Tell content) (sym ready_free) told.free) in
@@ -302,7 +305,7 @@ module _ {S : Type 0} (place_of : S → RawPlace) (content : S → Option (List 
   -- the slots of the group and the new inode came from the stock, and the old inode's went back
   pub write_moves : (shape : Cluster) (log later : List Told) (bytes : List ℕ) (stock ready mid rest : Shelves S) (old units inode : Pair S)
       → ready.shape ≡ stock.shape → ready.board ≡ stock.board → ready.free ≡ stock.free → ready.retired ≡ stock.retired
-      → Draws2 place_of content ready mid bytes units inode → SameBeside ready mid → Releases mid rest old
+      → Draws2 place_of content ready mid bytes units inode → SameBeside ready mid → Releases place_of mid rest old
       → Moves place_of content (plain.Write bytes) shape log later (Empty old) (Written (length bytes) units inode) stock rest
   write_moves shape log later bytes stock ready mid rest old units inode ready_shape ready_board ready_free ready_retired drawn beside released = record {
     conserved = λ p.
@@ -326,6 +329,13 @@ module _ {S : Type 0} (place_of : S → RawPlace) (content : S → Option (List 
         omega (arith, first, second, more, free, once, again);
     shape_same = released.shape ∙ beside.shape ∙ ready_shape;
     board = released.board ∙ beside.board ∙ ready_board;
+    sorted =
+        let begin : SortsSlots place_of stock ready = same_sorted place_of stock ready (λ p. ap (count_at place_of p) ready_free) ready_retired in
+        let first = drawn_sorted place_of content ready drawn.between _ units drawn.units_drawn drawn.beside.retired in
+        let second = drawn_sorted place_of content drawn.between mid _ inode drawn.inode_drawn (beside.retired ∙ sym drawn.beside.retired) in
+        let up_to_mid = sorted_then place_of ready drawn.between mid drawn.beside.shape drawn.beside.board first second in
+        sorted_then place_of stock ready rest ready_shape ready_board begin
+        (sorted_then place_of ready mid rest beside.shape beside.board up_to_mid released.sorted);
   }
 
   -- the slots of the old inode may go back

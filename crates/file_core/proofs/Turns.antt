@@ -1,5 +1,6 @@
 -- What is true after each turn of a plain file.
-use Rattle.std.proofs.Common.{◌≡◌, ◌≢◌, ℕ, ◌+◌, ◌<◌, ◌≤◌, Bool, true, false, not, ◌&&◌, cond, List, [], ◌∷◌, ◌++◌, length, count_by, Option, Some, None, IsSome, is_some, is_none, eqb, refl, sym, ap, subst, ◌∙◌, inl, inr, arith}
+use Rattle.std.proofs.Common.{◌≡◌, ◌≢◌, ℕ, ◌+◌, ◌<◌, ◌≤◌, Bool, true, false, not, ◌&&◌, cond, List, [], ◌∷◌, ◌++◌, length, count_by, All, Option, Some, None, IsSome, is_some, is_none, eqb, refl, sym, ap, subst, ◌∙◌, inl, inr, arith}
+use Rattle.std.proofs.lemmas.List.Elements.{All-nil}
 use Rattle.std.proofs.lemmas.Bool.{and_parts, eqb-true, ne_eqb, eq-eqb, and_left, ltb-true, true≢false, false≢true}
 use Rattle.flex_io.specs.declared.raw_place.RawPlace.{RawPlace}
 use Rattle.domains.specs.Drive.{Drive, Spot, IsDrive, same_drive, same_spot}
@@ -12,6 +13,7 @@ use Rattle.domains.specs.declared.group.Group.{Group}
 use Rattle.domains.specs.declared.room.TooFew.{TooFew}
 use Rattle.board_log.specs.Board.{up_after}
 use Rattle.board_log.specs.declared.entry.BoardEntry.{BoardEntry}
+use Rattle.galois.specs.Field.{IsByte}
 use Rattle.inode_codec.specs.Inode.{inode_bytes}
 use Rattle.file_core.specs.Moments.{last_moment}
 use Rattle.file_core.specs.Bytes.{bytes_after}
@@ -34,6 +36,7 @@ use Rattle.file_core.specs.declared.plain.standing.Standing.{Standing}
 use Rattle.file_core.specs.declared.plain.standing.Standing.TheVariants.{Absent, Empty, Written}
 use Rattle.file_core.proofs.Growth.{layout_from-push, bytes_from-push}
 use Rattle.file_core.proofs.Rooms.{room_of_same}
+use Rattle.file_core.proofs.Sorting.{same_sorted, drawn_sorted}
 
 pub and-true : (b : Bool) → b && true ≡ b
 and-true true = refl
@@ -100,6 +103,7 @@ module _ {S : Type 0} (place_of : S → RawPlace) (content : S → Option (List 
       record {
         layout = same_layout ∙ inside.layout;
         holds = subst (HoldsFile place_of content shape standing) (sym same_bytes) inside.holds;
+        bytes = subst (All IsByte) (sym same_bytes) inside.bytes;
       }
 
   -- a refusal was played
@@ -152,6 +156,7 @@ module _ {S : Type 0} (place_of : S → RawPlace) (content : S → Option (List 
         omega (arith, free);
     shape_same = same_shape;
     board = same_board;
+    sorted = same_sorted place_of stock rest same same_retired;
   }
 
   -- a mirror is at the level of two copies
@@ -237,6 +242,7 @@ module _ {S : Type 0} (place_of : S → RawPlace) (content : S → Option (List 
           layout = layout_from-push log t two_copies _
               ∙ ap (λ (l : Layout). Rattle.file_core.specs.Layout.layout_after_event two_copies (Created (mirror_of place_of 0 inode)) l) inside.layout;
           holds = (bytes_from-push log t [], mirror, draws.copies);
+          bytes = subst (All IsByte) (sym (bytes_from-push log t [])) (All-nil IsByte);
         });
         tell = λ told.
             let drawn = draws.tell told.free in
@@ -264,4 +270,5 @@ module _ {S : Type 0} (place_of : S → RawPlace) (content : S → Option (List 
         omega (arith, moved, once);
     shape_same = beside.shape;
     board = beside.board;
+    sorted = drawn_sorted place_of content stock rest bytes inode draws beside.retired;
   }

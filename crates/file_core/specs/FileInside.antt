@@ -1,10 +1,11 @@
 -- What a plain file keeps true of its parts.
-use Rattle.std.specs.Prelude.{◌≡◌, ℕ, ◌+◌, ◌-◌, ◌<◌, ◌≤◌, Bool, true, false, List, [], ◌∷◌, ◌++◌, length, replicate, Option, Some}
+use Rattle.std.specs.Prelude.{◌≡◌, ℕ, ◌+◌, ◌-◌, ◌<◌, ◌≤◌, Bool, true, false, List, [], ◌∷◌, ◌++◌, length, replicate, Option, Some, All}
 use Rattle.flex_io.specs.declared.raw_place.RawPlace.{RawPlace}
 use Rattle.domains.specs.Drive.{Spot}
 use Rattle.domains.specs.Cluster.{Cluster}
 use Rattle.domains.specs.Level.{two_copies}
 use Rattle.domains.specs.declared.group.Group.{Group}
+use Rattle.galois.specs.Field.{IsByte}
 use Rattle.inode_codec.specs.Inode.{inode_bytes}
 use Rattle.file_core.specs.Stored.{inode_of}
 use Rattle.file_core.specs.Bytes.{bytes_after}
@@ -12,7 +13,7 @@ use Rattle.file_core.specs.Layout.{Layout, empty_layout, layout_after}
 use Rattle.file_core.specs.Slots.{spot_of}
 use Rattle.file_core.specs.Mirrors.{slots_of, mirror_of, IsMirror, AreCopies, AreTold, SameSlots}
 use Rattle.file_core.specs.StockWords.{Releases}
-use Rattle.file_core.specs.Plain.{Shelves, Holding, Plays, AllTell, count_all, free_on, slots_for}
+use Rattle.file_core.specs.Plain.{Shelves, Holding, Plays, AllTell, count_all, free_on, slots_for, SortsSlots}
 use Rattle.domains.specs.declared.by.By.{By}
 use Rattle.domains.specs.Drive.{Drive}
 use Rattle.file_core.specs.declared.plain.op.PlainOp.{PlainOp}
@@ -74,6 +75,7 @@ module _ {S : Type 0} (place_of : S → RawPlace) (content : S → Option (List 
   pub record KeepsFile (shape : Cluster) (log : List Told) (standing : Standing S) : Type 0 where
     pub layout : layout_after two_copies log ≡ layout_of place_of standing
     pub holds : HoldsFile shape standing (bytes_after log)
+    pub bytes : All IsByte (bytes_after log)
 
   -- an operation was played: the log says it, the slots hold the file, and no slot was lost or made
   pub record Played (by : By) (o : PlainOp) (shape : Cluster) (log later : List Told) (standing left : Standing S) (stock rest : Shelves S) : Type 0 where
@@ -87,6 +89,7 @@ module _ {S : Type 0} (place_of : S → RawPlace) (content : S → Option (List 
     pub spared : (d : Drive) → free_on place_of d stock ≤ free_on place_of d rest + slots_for o
     pub shape_same : rest.shape ≡ stock.shape
     pub board : rest.board ≡ stock.board
+    pub sorted : SortsSlots place_of stock rest
 
 -- the mirrors of a file that stands so are mirrors of the cluster
 abbrev pub MirrorsOf : {S : Type 0} → (S → RawPlace) → Cluster → Standing S → Type 0
@@ -106,10 +109,10 @@ MayRelease place_of stock (Empty inode) = MayReleaseInode place_of stock inode
 MayRelease place_of stock (Written size units inode) = ⊥
 
 -- the slots of the inode went back
-abbrev pub ReleasesInode : {S : Type 0} → Standing S → Shelves S → Shelves S → Type 0
-ReleasesInode Absent old new = ⊥
-ReleasesInode (Empty inode) old new = Releases old new inode
-ReleasesInode (Written size units inode) old new = ⊥
+abbrev pub ReleasesInode : {S : Type 0} → (S → RawPlace) → Standing S → Shelves S → Shelves S → Type 0
+ReleasesInode place_of Absent old new = ⊥
+ReleasesInode place_of (Empty inode) old new = Releases place_of old new inode
+ReleasesInode place_of (Written size units inode) old new = ⊥
 
 -- what was written fits a unit
 abbrev pub SizeFits : {S : Type 0} → Cluster → Standing S → Type 0

@@ -15,3 +15,4 @@ pub mod Moments
 pub mod LiveMirrors
 pub mod FileInside
 pub mod Drives
+pub mod Laws

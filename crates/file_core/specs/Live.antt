@@ -16,7 +16,8 @@ is_dead l generation position = list_any (λ (u : Unit_). (u.generation == gener
 abbrev pub is_live : Moment → Layout → ℕ → ℕ → Spot → Bool
 is_live now l generation position spot = now.up spot.drive && not (is_dead l generation position)
 
-abbrev live_from : List Spot → ℕ → Moment → Layout → ℕ → ℕ
+-- how many of the units at these places count, from this position on
+abbrev pub live_from : List Spot → ℕ → Moment → Layout → ℕ → ℕ
 live_from [] position now l generation = 0
 live_from (s ∷ ss) position now l generation =
     (if is_live now l generation position s then 1 else 0) + live_from ss (position + 1) now l generation

@@ -1,6 +1,7 @@
 -- The two slots of a mirror.
-use Rattle.std.specs.Prelude.{◌≡◌, ◌≢◌, ℕ, true, List, [], ◌∷◌, Option, Some, IsSome}
+use Rattle.std.specs.Prelude.{◌≡◌, ◌≢◌, ◌⊎◌, ℕ, true, List, [], ◌∷◌, Option, Some, IsSome}
 use Rattle.flex_io.specs.Slots.{Holds}
+use Rattle.flex_io.specs.Faults.{HasRisen}
 use Rattle.flex_io.specs.declared.raw_place.RawPlace.{RawPlace}
 use Rattle.domains.specs.Cluster.{Cluster}
 use Rattle.domains.specs.declared.group.Group.{Group}
@@ -35,6 +36,11 @@ pub record SamePlaces {S : Type 0} (place_of : S → RawPlace) (old new : Pair S
 pub record TellStill {S : Type 0} (content : S → Option (List ℕ)) (old new : Pair S) : Type 0 where
   pub first : IsSome (content old.first) → IsSome (content new.first)
   pub second : IsSome (content old.second) → IsSome (content new.second)
+
+-- the count of faults of one of the slots rose
+abbrev pub PairFails : {S : Type 0} → (S → ℕ) → Pair S → Pair S → Type 0
+PairFails faults old new =
+    HasRisen (faults old.first) (faults new.first) ⊎ HasRisen (faults old.second) (faults new.second)
 
 -- both slots hold these bytes, where they tell
 pub record AreCopies {S : Type 0} (content : S → Option (List ℕ)) (pair : Pair S) (bytes : List ℕ) : Type 0 where

@@ -2,6 +2,7 @@
 use Rattle.std.specs.Prelude.{◌≡◌, ℕ, ◌+◌, ◌<◌, ◌≤◌, Bool, true, false, List, [], ◌∷◌, ◌++◌, length, map, Option, IfSome}
 use Rattle.std.specs.List.{AllByRecursion}
 use Rattle.flex_io.specs.declared.raw_place.RawPlace.{RawPlace}
+use Rattle.flex_io.specs.Faults.{HasRisen}
 use Rattle.domains.specs.Drive.{Drive, Spot, IsDrive, same_drive, same_spot}
 use Rattle.domains.specs.Cluster.{Cluster}
 use Rattle.domains.specs.Level.{two_copies}
@@ -121,6 +122,21 @@ module _ {S : Type 0} (place_of : S → RawPlace) where
   -- each drive that is up has so many free slots
   abbrev pub HasRoom : ℕ → Shelves S → Type 0
   HasRoom many stock = (d : Drive) → IsDrive d → up_after stock.shape stock.board (length stock.board) d ≡ true → many ≤ free_on d stock
+
+-- a slot on a drive that is lost does not come back to the free ones, and one on a drive that is up is not retired
+pub record SortsSlots {S : Type 0} (place_of : S → RawPlace) (old new : Shelves S) : Type 0 where
+  pub lost : (s : Spot) → up_after old.shape old.board (length old.board) s.drive ≡ false
+      → count_at place_of (same_spot s) new.free ≡ count_at place_of (same_spot s) old.free
+  pub up : (s : Spot) → up_after old.shape old.board (length old.board) s.drive ≡ true
+      → count_at place_of (same_spot s) new.retired ≡ count_at place_of (same_spot s) old.retired
+
+-- a slot at the place of a free one failed: its count of faults rose
+pub record HasFailed {S : Type 0} (place_of : S → RawPlace) (faults : S → ℕ) (stock : Shelves S) : Type 0 where
+  pub before : S
+  pub after : S
+  pub free : 1 ≤ count_at place_of (same_spot (spot_of (place_of before))) stock.free
+  pub place : place_of after ≡ place_of before
+  pub rose : HasRisen (faults before) (faults after)
 
 -- the slots of the file and the stock tell what they hold
 pub record AllTell {S : Type 0} (content : S → Option (List ℕ)) (file : Holding S) (stock : Shelves S) : Type 0 where

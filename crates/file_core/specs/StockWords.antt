@@ -4,7 +4,7 @@ use Rattle.flex_io.specs.declared.raw_place.RawPlace.{RawPlace}
 use Rattle.domains.specs.Drive.{Spot}
 use Rattle.board_log.specs.Board.{up_after}
 use Rattle.file_core.specs.Slots.{spot_of, one_if, count_at, Tell}
-use Rattle.file_core.specs.Plain.{Shelves}
+use Rattle.file_core.specs.Plain.{Shelves, SortsSlots}
 use Rattle.file_core.specs.Mirrors.{mirror_of, IsMirror, AreCopies}
 use Rattle.domains.specs.Level.{two_copies}
 use Rattle.inode_codec.specs.Inode.{inode_bytes}
@@ -33,11 +33,12 @@ pub record SameBeside {S : Type 0} (old new : Shelves S) : Type 0 where
   pub retired : new.retired ≡ old.retired
   pub spare : new.spare ≡ old.spare
 
--- the pair went back: its slots are among the free and the retired ones
-pub record Releases {S : Type 0} (old new : Shelves S) (pair : Pair S) : Type 0 where
+-- the pair went back: its slots are among the free ones where their drives are up, else among the retired ones
+pub record Releases {S : Type 0} (place_of : S → RawPlace) (old new : Shelves S) (pair : Pair S) : Type 0 where
   pub moved : (p : S → Bool) → count_by p new.free + count_by p new.retired
       ≡ (count_by p old.free + count_by p old.retired) + (one_if (p pair.first) + one_if (p pair.second))
   pub more : (p : S → Bool) → count_by p old.free ≤ count_by p new.free
+  pub sorted : SortsSlots place_of old new
   pub shape : new.shape ≡ old.shape
   pub board : new.board ≡ old.board
 

@@ -3,7 +3,7 @@ use Rattle.std.specs.Prelude.{◌≡◌, ℕ, ◌+◌, true, List, [], ◌∷◌
 use Rattle.std.specs.List.{AllByRecursion, flat_map}
 use Rattle.domains.specs.Drive.{Spot}
 use Rattle.domains.specs.declared.group.Group.{Group}
-use Rattle.galois.specs.Codeword.{IsCodeword, unit_at}
+use Rattle.galois.specs.Codeword.{IsCodeword}
 use Rattle.inode_codec.specs.Inode.{IsInode, inode_bytes}
 use Rattle.inode_codec.specs.declared.inode.Inode.{Inode}
 use Rattle.file_core.specs.World.{Moment}
@@ -48,7 +48,8 @@ pub record IsStored (held : Spot → Option (List ℕ)) (unit : ℕ) (l : Layout
   pub zeros : ℕ
   pub groups : HoldsGroups l.groups (bytes ++ replicate zeros 0) unit held
 
-abbrev AgreeOnPlaces : List Spot → ℕ → Moment → Layout → ℕ → (Spot → List ℕ) → (Spot → List ℕ) → Type 0
+-- the places, of units from this position on, hold the same wherever the unit is live
+abbrev pub AgreeOnPlaces : List Spot → ℕ → Moment → Layout → ℕ → (Spot → List ℕ) → (Spot → List ℕ) → Type 0
 AgreeOnPlaces [] position now l generation held other = Unit {0}
 AgreeOnPlaces (s ∷ ss) position now l generation held other =
     (is_live now l generation position s ≡ true → other s ≡ held s)
@@ -59,10 +60,14 @@ abbrev pub AgreeOnLive : Moment → Layout → (Spot → List ℕ) → (Spot →
 AgreeOnLive now l held other =
     AllByRecursion (λ (g : Group). AgreeOnPlaces g.places 0 now l g.generation held other) (all_groups l)
 
+-- a layout without an inode has no groups and no bytes
+abbrev pub IsRooted : Layout → Type 0
+IsRooted l = l.inode ≡ None → (l.groups ≡ []) × (l.size ≡ 0)
+
 -- the live units leave one file: any other that is stored with the same inode group, and agrees on the units that are live,
 -- has the same groups, size and bytes
 abbrev pub IsDetermined : Moment → (Spot → List ℕ) → Layout → List ℕ → Type 0
 IsDetermined now held l bytes =
-    (other : Spot → List ℕ) (found : Layout) (shown : List ℕ) → found.inode ≡ l.inode
+    (other : Spot → List ℕ) (found : Layout) (shown : List ℕ) → IsRooted found → found.inode ≡ l.inode
     → IsStored (λ s. Some (other s)) now.shape.unit found shown → AgreeOnLive now l held other
     → (found.groups ≡ l.groups) × (found.size ≡ l.size) × (shown ≡ bytes)

@@ -2,6 +2,7 @@
 #![tactic(auto)]
 
 mod entry;
+pub mod laws;
 pub mod plain;
 
 pub use entry::{Change, FileEntry, FileEvent, FileLog, Refused, Told};

@@ -1,10 +1,11 @@
 //! The create of a plain file.
 
 ghost use Rattle.std.specs.Prelude.{◌≡◌, ℕ, ◌^◌, ◌<◌, ◌≤◌, [], ◌∷◌, ◌++◌, length, IfOk, OnOk, OnErr};
+ghost use Rattle.std.specs.Result.{IsErrOf};
 ghost use Rattle.domains.specs.Cluster.{IsCluster};
 ghost use Rattle.inode_codec.specs.Inode.{inode_bytes};
 ghost use Rattle.domains.specs.Level.{two_copies};
-ghost use Rattle.file_core.specs.Plain.{OneEach, HasRoom};
+ghost use Rattle.file_core.specs.Plain.{OneEach, HasRoom, HasFailed};
 ghost use Rattle.file_core.specs.FileInside.{holding, KeepsFile, Played, Moves};
 ghost use Rattle.file_core.specs.declared.plain.op.PlainOp.TheVariants as plain;
 
@@ -20,6 +21,7 @@ use lists::List;
 use std::alloc::{AllocError, Global};
 
 /// Creates the file, or notes why it is refused.
+#[tactic(auto, using(crate::proofs::Faults::no_slot_failed))]
 pub(crate) fn create<S: Slot + Drop>(
     alloc: Global,
     shape: Shape,
@@ -39,6 +41,7 @@ pub(crate) fn create<S: Slot + Drop>(
         standing.old standing.new stock.old stock.new }
     ensures kept_log { OnErr result (log.new.items ≡ log.old.items) }
     ensures kept_standing { OnErr result (standing.new ≡ standing.old) }
+    ensures fault { IsErrOf result PlainFault.Slot → HasFailed S.place_of S.faults stock.old }
 {
     let epoch = stock.epoch();
     if standing.is_present() {

@@ -6,7 +6,7 @@ ghost use Rattle.domains.specs.Drive.{Drive, Spot};
 ghost use Rattle.domains.specs.Level.{two_copies};
 ghost use Rattle.file_core.specs.Mirrors.{slots_of};
 ghost use Rattle.file_core.specs.FileInside.{units_of, inode_slots};
-ghost use Rattle.file_core.specs.Plain.{slots_for, MayPlay, count_all, free_on, OneEach, HasRoom, AllTell, Plays, Keeps};
+ghost use Rattle.file_core.specs.Plain.{slots_for, MayPlay, count_all, free_on, OneEach, HasRoom, AllTell, Plays, Keeps, SortsSlots, HasFailed};
 
 use crate::entry::{FileEntry, FileLog, Told};
 use crate::plain::create::create;
@@ -84,14 +84,18 @@ impl<S: Slot + Drop + Steady> PlainFile<S> {
         // What was played.
         ensures played { OnOk result (Plays by op.now stock.old.board (AllTell S.content self.old stock.old) self.old self.new) }
         ensures tell { OnOk result (AllTell S.content self.old stock.old → AllTell S.content self.new stock.new) }
+        ensures keeps { OnOk result (Keeps S.place_of S.content self.new) }
         ensures kept { OnErr result (self.new.log ≡ self.old.log) }
+        ensures fault { IsErrOf result PlainFault.Slot → HasFailed S.place_of S.faults stock.old }
 
         // Slots move between the file and the stock, and from each drive no more than the operation may take.
         ensures conserved { (p : Spot → Bool) → count_all S.place_of p self.new stock.new ≡ count_all S.place_of p self.old stock.old }
         ensures spared { (d : Drive) → free_on S.place_of d stock.old ≤ free_on S.place_of d stock.new + slots_for op.now }
+        ensures sorted { SortsSlots S.place_of stock.old stock.new }
         ensures same_shape { self.new.shape ≡ self.old.shape }
         ensures same_stock { (stock.new.shape ≡ stock.old.shape) × (stock.new.board ≡ stock.old.board) }
     {
+        let _nodes = self.shape.nodes();
         match op {
             PlainOp::Create => create(
                 alloc,
@@ -129,7 +133,7 @@ impl<S: Slot + Drop + Steady> PlainFile<S> {
     }
 
     /// The log, and the slots by position.
-    pub fn close(self, alloc: Global) -> Result<PlainParts<S>, PlainFault>
+    pub fn close(self, alloc: Global) -> Result<PlainParts<S>, AllocError>
         ensures log { IfOk result (λ parts. parts.log ≡ map (λ t. t.entry) self.log) }
         ensures units { IfOk result (λ parts. parts.units ≡ self.units) }
         ensures inode { IfOk result (λ parts. parts.inode ≡ self.inode) }

@@ -22,6 +22,12 @@ pub enum PlainFault {
 }
 
 impl From<Fault> for PlainFault {
+    ghost use Rattle.std.specs.Prelude.{◌≡◌};
+    ghost use Rattle.flex_io.specs.declared.fault.Fault.TheVariants.{Failed};
+    ghost use Rattle.file_core.specs.declared.plain.op.PlainFault.TheVariants.{Slot};
+
+    ghost from_gives = { λ fault told. told ≡ Slot → fault ≡ Failed };
+
     fn from(fault: Fault) -> PlainFault {
         match fault {
             Fault::Failed => PlainFault::Slot,
@@ -31,6 +37,11 @@ impl From<Fault> for PlainFault {
 }
 
 impl From<AllocError> for PlainFault {
+    ghost use Rattle.std.specs.Prelude.{◌≡◌};
+    ghost use Rattle.file_core.specs.declared.plain.op.PlainFault.TheVariants.{NoMemory};
+
+    ghost from_gives = { λ _ told. told ≡ NoMemory };
+
     fn from(_fault: AllocError) -> PlainFault {
         PlainFault::NoMemory
     }

@@ -1,7 +1,8 @@
 //! Two slots that hold the same.
 
 ghost use Rattle.std.specs.Prelude.{◌≡◌, ◌≤◌, length, is_some, OnOk};
-ghost use Rattle.file_core.specs.Mirrors.{AreCopies, SamePlaces, TellStill};
+ghost use Rattle.std.specs.Result.{IsErrOf};
+ghost use Rattle.file_core.specs.Mirrors.{AreCopies, SamePlaces, TellStill, PairFails};
 
 use flex_io::{Fault, Slot};
 
@@ -18,6 +19,7 @@ pub(crate) fn write_both<S: Slot + Drop>(pair: &mut Pair<S>, bytes: &[u8]) -> Re
     ensures ok { OnOk result (AreCopies S.content pair.new bytes.now) }
     ensures tell { OnOk result (TellStill S.content pair.old pair.new) }
     ensures places { SamePlaces S.place_of pair.old pair.new }
+    ensures fault { IsErrOf result Fault.Failed → PairFails S.faults pair.old pair.new }
 {
     pair.first.write(bytes)?;
     pair.second.write(bytes)?;

@@ -1,6 +1,7 @@
 //! The read of a plain file.
 
 ghost use Rattle.std.specs.Prelude.{◌≡◌, ℕ, ◌^◌, ◌<◌, ◌≤◌, ◌-◌, nat_lt, ◌&&◌, List, take, drop, length, IfOk, IfSome, OnOk, OnErr};
+ghost use Rattle.std.specs.Result.{IsErrOf};
 ghost use Rattle.file_core.specs.Bytes.{slice_of};
 ghost use Rattle.file_core.specs.Live.{range, first_short};
 ghost use Rattle.file_core.specs.Moments.{last_moment};
@@ -40,6 +41,7 @@ pub(crate) fn read<S: Slot + Drop + Steady>(
         standing.old standing.new stock.old stock.new }
     ensures kept_log { OnErr result (log.new.items ≡ log.old.items) }
     ensures inside { OnErr result (KeepsFile S.place_of S.content shape log.new.items standing.new) }
+    ensures fault { IsErrOf result PlainFault.Slot → ⊥ }
 {
     let epoch = stock.epoch();
     let payload = List::new(alloc);
@@ -85,6 +87,7 @@ fn copy_of<S: Slot + Steady>(
     ensures shown { IfOk result (λ bytes. IfSome (S.content slot.old) (λ told. to ≤ length told → bytes ≡ take (to - from) (drop from told))) }
     ensures content { S.content slot.new ≡ S.content slot.old }
     ensures place { S.place_of slot.new ≡ S.place_of slot.old }
+    ensures fault { IsErrOf result PlainFault.Slot → ⊥ }
 {
     let mut unit = vec![in alloc; 0u8; slot.len() as usize]?;
     let Ok(()) = slot.read(&mut unit) else {
@@ -143,6 +146,7 @@ fn shown<S: Slot + Drop + Steady>(
     ensures shown { IfOk result (λ bytes. (told : List ℕ) → HoldsBytes S.content stock.now.shape standing.old told
         → bytes ≡ slice_of told offset len) }
     ensures same { SameStanding S.place_of S.content standing.old standing.new }
+    ensures fault { IsErrOf result PlainFault.Slot → ⊥ }
 {
     let Standing::Written {
         size,
@@ -173,6 +177,7 @@ fn copy_live<S: Slot + Drop + Steady>(
     ensures shown { IfOk result (λ bytes. (told : List ℕ) → AreTold S.content units.old told → to ≤ length told
         → bytes ≡ take (to - from) (drop from told)) }
     ensures same { SameSlots S.place_of S.content units.old units.new }
+    ensures fault { IsErrOf result PlainFault.Slot → ⊥ }
 {
     if stock.is_live(&units.first) {
         copy_of(alloc, &mut units.first, from, to)

@@ -1,6 +1,7 @@
 //! The slots of a cluster that no file holds, and the states of its drives.
 
 ghost use Rattle.std.specs.Prelude.{◌≡◌, [], ◌∷◌, ◌++◌, ◌<◌, ◌≤◌, ◌^◌, ℕ, Bool, ◌+◌, true, if◌then◌else◌, length, count_by, vec_len, vec_capacity, IfOk, IfErr, OnOk, OnErr};
+ghost use Rattle.std.specs.Result.{IsErrOf};
 ghost use Rattle.domains.specs.Cluster.{IsCluster, is_of};
 ghost use Rattle.domains.specs.Drive.{Drive, Spot, IsDrive};
 ghost use Rattle.domains.specs.Level.{two_copies};
@@ -8,7 +9,7 @@ ghost use Rattle.domains.specs.Room.{room_of};
 ghost use Rattle.domains.specs.DriveSet.{has};
 ghost use Rattle.board_log.specs.Board.{effect_of, up_after};
 ghost use Rattle.file_core.specs.Slots.{spot_of, is_place_of, one_if, count_at, AreOf};
-ghost use Rattle.file_core.specs.Plain.{HasRoom};
+ghost use Rattle.file_core.specs.Plain.{HasRoom, SortsSlots, HasFailed};
 ghost use Rattle.file_core.specs.StockWords.{Draws, SameFree, SameBeside, Releases};
 ghost use Rattle.file_core.specs.Mirrors.{IsMirror};
 
@@ -152,7 +153,7 @@ impl<S: Slot + Drop> Stock<S> {
         requires room { 2 ≤ self.old.room }
         requires spare { 2 ≤ self.old.spare }
         requires mirror { IsMirror S.place_of self.old.shape pair }
-        ensures { Releases self.old self.new pair }
+        ensures { Releases S.place_of self.old self.new pair }
     {
         let Pair { first, second } = pair;
         self.release_slot(second);
@@ -166,6 +167,7 @@ impl<S: Slot + Drop> Stock<S> {
         ensures moved { (p : S → Bool) → count_by p self.new.free + count_by p self.new.retired
             ≡ (count_by p self.old.free + count_by p self.old.retired) + one_if (p slot) }
         ensures more { (p : S → Bool) → count_by p self.old.free ≤ count_by p self.new.free }
+        ensures sorted { SortsSlots S.place_of self.old self.new }
         ensures shape { self.new.shape ≡ self.old.shape }
         ensures board { self.new.board ≡ self.old.board }
         ensures room_left { self.old.room ≤ self.new.room + 1 }
@@ -194,6 +196,7 @@ impl<S: Slot + Drop> Stock<S> {
         requires room { HasRoom S.place_of 1 self.old }
         ensures ok { IfOk result (Draws S.place_of S.content self.old self.new bytes.now) }
         ensures kept { OnErr result (SameFree S.place_of self.old self.new × (self.old.room ≤ self.new.room)) }
+        ensures fault { IsErrOf result PlainFault.Slot → HasFailed S.place_of S.faults self.old }
         ensures same { SameBeside self.old self.new }
     {
         let Some((one, two)) = mirror_drives(&self.up, self.shape, spin) else {

@@ -1,12 +1,14 @@
 //! The write of a plain file.
 
-ghost use Rattle.std.specs.Prelude.{◌≡◌, ℕ, ◌^◌, ◌<◌, ◌≤◌, ◌+◌, ◌-◌, true, None, [], ◌∷◌, ◌++◌, length, replicate, IfOk, OnOk, OnErr};
+ghost use Rattle.std.specs.Prelude.{◌≡◌, ℕ, ◌^◌, ◌<◌, ◌≤◌, ◌+◌, ◌-◌, true, None, [], ◌∷◌, ◌++◌, length, replicate, All, IfOk, OnOk, OnErr};
+ghost use Rattle.std.specs.Result.{IsErrOf};
 ghost use Rattle.domains.specs.Cluster.{IsCluster};
 ghost use Rattle.domains.specs.Level.{two_copies};
 ghost use Rattle.domains.specs.Room.{room_of};
 ghost use Rattle.board_log.specs.Board.{up_after};
+ghost use Rattle.galois.specs.Field.{IsByte};
 ghost use Rattle.inode_codec.specs.Inode.{inode_bytes};
-ghost use Rattle.file_core.specs.Plain.{OneEach, HasRoom, IsUnwritten};
+ghost use Rattle.file_core.specs.Plain.{OneEach, HasRoom, IsUnwritten, HasFailed};
 ghost use Rattle.file_core.specs.Mirrors.{IsMirror, mirror_of};
 ghost use Rattle.file_core.specs.StockWords.{Draws, SameFree, SameBeside, Draws2};
 ghost use Rattle.file_core.specs.FileInside.{is_present, holding, layout_of, KeepsFile, Played, Moves, MayRelease, ReleasesInode};
@@ -30,6 +32,7 @@ use std::alloc::{AllocError, Global};
 use std::mem;
 
 /// Writes the bytes from the front of the file, or notes why it is refused.
+#[tactic(auto, using(crate::proofs::Faults::no_slot_failed))]
 pub(crate) fn write<S: Slot + Drop>(
     alloc: Global,
     shape: Shape,
@@ -53,6 +56,7 @@ pub(crate) fn write<S: Slot + Drop>(
         standing.old standing.new stock.old stock.new }
     ensures kept_log { OnErr result (log.new.items ≡ log.old.items) }
     ensures kept_standing { OnErr result (standing.new ≡ standing.old) }
+    ensures fault { IsErrOf result PlainFault.Slot → HasFailed S.place_of S.faults stock.old }
 {
     let epoch = stock.epoch();
     let _unit = shape.unit();
@@ -90,6 +94,7 @@ pub(crate) fn write<S: Slot + Drop>(
 }
 
 /// Places the bytes and a new inode, and takes the old inode's slots back.
+#[tactic(auto, using(crate::proofs::Faults::no_slot_failed))]
 fn place<S: Slot + Drop>(
     alloc: Global,
     shape: Shape,
@@ -103,6 +108,7 @@ fn place<S: Slot + Drop>(
     requires within { length stock.old.board < 2 ^ 32 }
     requires some { 1 ≤ length payload }
     requires fits { length payload ≤ shape.unit }
+    requires bytes { All IsByte payload }
     requires unwritten { IsUnwritten log.old.items }
     requires inside { KeepsFile S.place_of S.content shape log.old.items standing.old }
     requires one_each { OneEach S.place_of (holding shape log.old.items standing.old) stock.old }
@@ -117,6 +123,7 @@ fn place<S: Slot + Drop>(
         standing.old standing.new stock.old stock.new }
     ensures kept_log { OnErr result (log.new.items ≡ log.old.items) }
     ensures kept_standing { OnErr result (standing.new ≡ standing.old) }
+    ensures fault { IsErrOf result PlainFault.Slot → HasFailed S.place_of S.faults stock.old }
 {
     let epoch = stock.epoch();
     let size = payload.len() as u32;
@@ -141,7 +148,7 @@ fn place<S: Slot + Drop>(
 /// Takes back the slots of the inode of a file that holds nothing else.
 fn release_inode<S: Slot + Drop>(before: Standing<S>, stock: &mut Stock<S>)
     requires { MayRelease S.place_of stock.old before }
-    ensures { ReleasesInode before stock.old stock.new }
+    ensures { ReleasesInode S.place_of before stock.old stock.new }
 {
     let Standing::Empty { inode } = before else {
         unreachable!()
@@ -172,6 +179,7 @@ fn written(by: By, epoch: u32, len: u32, change: Change, payload: List<u8>) -> T
 }
 
 /// Draws the slots of the group, with the bytes in both, and those of the inode. At an `Err` all went back.
+#[tactic(auto, using(crate::proofs::Faults::no_slot_failed))]
 fn draw_both<S: Slot + Drop>(
     alloc: Global,
     shape: Shape,
@@ -185,6 +193,7 @@ fn draw_both<S: Slot + Drop>(
     requires usable { 2 ≤ room_of two_copies shape (up_after shape stock.old.board (length stock.old.board)) }
     ensures ok { IfOk result (λ drawn. Draws2 S.place_of S.content stock.old stock.new bytes.now drawn.0 drawn.1) }
     ensures kept { OnErr result (SameFree S.place_of stock.old stock.new) }
+    ensures fault { IsErrOf result PlainFault.Slot → HasFailed S.place_of S.faults stock.old }
     ensures same { SameBeside stock.old stock.new }
 {
     let text = padded(alloc, shape.unit(), bytes)?;
@@ -199,6 +208,7 @@ fn draw_both<S: Slot + Drop>(
 }
 
 /// Draws the slots of the inode of a file with one group, whose units these slots are.
+#[tactic(auto, using(crate::proofs::Faults::no_slot_failed))]
 fn draw_inode<S: Slot + Drop>(
     alloc: Global,
     shape: Shape,
@@ -215,6 +225,7 @@ fn draw_inode<S: Slot + Drop>(
     ensures ok { IfOk result (Draws S.place_of S.content stock.old stock.new
         (inode_bytes (record { level = two_copies; unit = shape.unit; size = size; groups = mirror_of S.place_of 1 units.now ∷ [] }))) }
     ensures kept { OnErr result (SameFree S.place_of stock.old stock.new × (stock.old.room ≤ stock.new.room)) }
+    ensures fault { IsErrOf result PlainFault.Slot → HasFailed S.place_of S.faults stock.old }
     ensures same { SameBeside stock.old stock.new }
 {
     let text = written_inode(alloc, shape, size, units)?;

@@ -1,4 +1,6 @@
 use Rattle.file_core.proofs.Rewriting.{room_left, given_back}
+use Rattle.file_core.proofs.Faults.{same_fault}
+use Rattle.file_core.proofs.Sorting.{failed_after_draw}
 use Rattle.file_core.proofs.plain.write.draw_both.Goals as goal
 
 pub draw_inode-requires-clause-room : goal.draw_inode-requires-clause-room
@@ -10,3 +12,9 @@ pub returns-clause-kept : goal.returns-clause-kept
 returns-clause-kept g c =
     given_back g.S.Slot.place_of g.S.Slot.content c.args.stock.now c.draw_mirror.new.self c.draw_inode.new.stock c.give_back.new.self _
     c.in_ok-units.units c.in_ok-units.ensures.ok c.in-Err.ensures.kept.0 c.give_back.ensures.moved
+
+pub returns-clause-fault : goal.returns-clause-fault
+returns-clause-fault g c =
+    λ is.
+    failed_after_draw g.S.Slot.place_of g.S.Slot.content g.S.Slot.faults c.args.stock.now c.draw_mirror.new.self _ c.in_ok-units.units
+    c.in_ok-units.ensures.ok (c.in-Err.ensures.fault (same_fault c.in-Err.fault is))

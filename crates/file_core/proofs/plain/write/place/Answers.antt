@@ -3,6 +3,8 @@ use Rattle.domains.specs.Cluster.{IsCluster}
 use Rattle.file_core.specs.Slots.{count_at}
 use Rattle.file_core.specs.declared.plain.op.PlainOp.TheVariants as plain
 use Rattle.file_core.proofs.Turns.{nothing_moves}
+use Rattle.file_core.proofs.Faults.{fault_goes_on}
+use Rattle.file_core.proofs.Sorting.{failed_same}
 use Rattle.file_core.proofs.Rewriting.{has_inode_alone, may_release, write_played, write_moves}
 use Rattle.file_core.proofs.plain.write.place.Goals as goal
 
@@ -34,7 +36,7 @@ returns-clause-played g c =
     rw (alone.1, c.replace-before.ensures.after, c.len-size.ensures)
     (write_played g.S.Slot.place_of g.S.Slot.content a.by a.shape a.log.now.items c.push_reserved-2.new.self.items a.payload a.stock.now c.prepare.new.self
     c.draw_both.new.stock c.release_inode.new.stock alone.0 c.in_ok-units.units c.in_ok-units.inode
-    c.requires.shape ready.0 ready.1 ready.2 ready.3 within c.requires.some c.requires.fits c.requires.usable
+    c.requires.shape ready.0 ready.1 ready.2 ready.3 within c.requires.some c.requires.fits c.requires.bytes c.requires.usable
     (rw (
       c.reserve.ensures.items,
       c.written.ensures,
@@ -59,3 +61,7 @@ returns-clause-moves g c =
     (write_moves g.S.Slot.place_of g.S.Slot.content a.shape a.log.now.items c.push_reserved-2.new.self.items a.payload a.stock.now c.prepare.new.self c.draw_both.new.stock
     c.release_inode.new.stock alone.0 c.in_ok-units.units c.in_ok-units.inode ready.0 ready.1 ready.2 ready.3
     (rw c.as_slice.ensures at c.in_ok-units.ensures.ok) c.draw_both.ensures.same (rw (c.replace-before.ensures.value, alone.1) at c.release_inode.ensures))
+
+pub returns-in_err-units-clause-fault : goal.returns-in_err-units-clause-fault
+returns-in_err-units-clause-fault g c =
+    λ is. failed_same g.S.Slot.place_of g.S.Slot.faults c.args.stock.now c.prepare.new.self c.prepare.ensures.same.2 (c.in_err-units.ensures.fault (fault_goes_on c.from_residual-in_err-units.result _ c.from_residual-in_err-units.ensures.1 is))

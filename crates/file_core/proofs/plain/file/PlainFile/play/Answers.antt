@@ -1,5 +1,7 @@
 use Rattle.std.proofs.Common.{◌≡◌, ◌≤◌, ◌+◌, ap, sym, subst}
+use Rattle.std.proofs.lemmas.Result.{on_ok_weaker}
 use Rattle.file_core.specs.Plain.{Holding, OneEach, count_all}
+use Rattle.file_core.proofs.Keeping.{keeps_played}
 use Rattle.file_core.proofs.plain.file.PlainFile.play.Goals as goal
 
 pub create-requires-clause-one_each : goal.create-requires-clause-one_each
@@ -24,3 +26,27 @@ returns-in-Write-clause-spared g c = rw c.in-Write.is c.write.ensures.moves.spar
 
 pub returns-in-Read-clause-conserved : goal.returns-in-Read-clause-conserved
 returns-in-Read-clause-conserved g c = rw (← c.self.view_is) c.read.ensures.moves.conserved
+
+pub returns-in-Create-clause-keeps : goal.returns-in-Create-clause-keeps
+returns-in-Create-clause-keeps g c =
+    let one = subst (λ (f : Holding g.row.S.Denot). OneEach g.S.Slot.place_of f c.args.stock.now) (sym c.self.view_is) c.requires.one_each in
+    on_ok_weaker c.create.result
+    (λ played. keeps_played g.S.Slot.place_of g.S.Slot.content _ _ _ _ _ _ _ _ _ c.nodes-nodes.ensures.within one c.create.ensures.moves played)
+    c.create.ensures.played
+
+pub returns-in-Write-clause-keeps : goal.returns-in-Write-clause-keeps
+returns-in-Write-clause-keeps g c =
+    let one = subst (λ (f : Holding g.row.S.Denot). OneEach g.S.Slot.place_of f c.args.stock.now) (sym c.self.view_is) c.requires.one_each in
+    on_ok_weaker c.write.result
+    (λ played. keeps_played g.S.Slot.place_of g.S.Slot.content _ _ _ _ _ _ _ _ _ c.nodes-nodes.ensures.within one c.write.ensures.moves played)
+    c.write.ensures.played
+
+pub returns-in-Read-clause-keeps : goal.returns-in-Read-clause-keeps
+returns-in-Read-clause-keeps g c =
+    let one = subst (λ (f : Holding g.row.S.Denot). OneEach g.S.Slot.place_of f c.args.stock.now) (sym c.self.view_is) c.requires.one_each in
+    on_ok_weaker c.read.result
+    (λ played. keeps_played g.S.Slot.place_of g.S.Slot.content _ _ _ _ _ _ _ _ _ c.nodes-nodes.ensures.within one c.read.ensures.moves played)
+    c.read.ensures.played
+
+pub returns-in-Read-clause-spared : goal.returns-in-Read-clause-spared
+returns-in-Read-clause-spared g c = rw c.in-Read.is c.read.ensures.moves.spared

@@ -7,6 +7,8 @@ use Rattle.board_log.specs.Board.{up_after}
 use Rattle.file_core.specs.Slots.{spot_of, is_place_of, one_if}
 use Rattle.file_core.proofs.Rooms.{room_of_same}
 use Rattle.file_core.proofs.Drawing.{draws, second_there, restored}
+use Rattle.file_core.proofs.Faults.{slot_failed}
+use Rattle.file_core.proofs.Sorting.{draw_failed}
 use Rattle.file_core.proofs.plain.stock.Stock.draw_mirror.Goals as goal
 
 pub unreachable-requires : goal.unreachable-requires
@@ -61,3 +63,11 @@ returns-in-Err-clause-kept g c =
           c.take_top-first.ensures.moved c.take_top-second.ensures.moved c.write_both.ensures.places c.put_back.ensures.moved p,
       omega arith,
     )
+
+pub returns-in-Err-clause-fault : goal.returns-in-Err-clause-fault
+returns-in-Err-clause-fault g c =
+    let inside = c.self.inside in
+    rw (← c.self.view_is) (λ is.
+    draw_failed g.S.Slot.place_of g.S.Slot.faults _ c.take_top-first.new.free.items c.take_top-second.new.free.items
+    c.take_top-first.result c.take_top-second.result c.write_both.new.pair c.take_top-first.ensures.moved c.take_top-second.ensures.moved
+    c.write_both.ensures.places (c.in-Err.ensures.fault (slot_failed _ _ c.from.ensures is)))
