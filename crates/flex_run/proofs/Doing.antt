@@ -1,5 +1,5 @@
 -- What one operation of the script does to the logs, and to what the later ones may need.
-use Rattle.std.proofs.Common.{◌≡◌, ℕ, ◌+◌, ◌<◌, ◌≤◌, ◌==◌, Bool, true, false, ◌&&◌, List, [], ◌∷◌, ◌++◌, length, take, drop, get_or, Some, refl, ap, sym, ◌∙◌, subst, arith, add-one}
+use Rattle.std.proofs.Common.{◌≡◌, ℕ, ◌+◌, ◌<◌, ◌≤◌, ◌==◌, Bool, true, false, ◌&&◌, List, [], ◌∷◌, ◌++◌, length, take, drop, get_or, Option, Some, refl, ap, sym, ◌∙◌, subst, arith, add-one}
 use Rattle.std.proofs.Math.Seq.{drop-cons}
 use Rattle.std.proofs.lemmas.List.{take_more, length-take-le}
 use Rattle.std.proofs.lemmas.Option.{slice_get-get_or}
@@ -47,7 +47,7 @@ is_for_board-plain (op.WriteText file offset text) o h = refl
 is_for_board-plain (op.Read file offset len) o h = refl
 is_for_board-plain (op.Fail drive) o h = absurd h
 
-module _ {S : Type 0} (place_of : S → RawPlace) (at_start now : Type 0) (s : Scenario) (done : List Op) (left : List Op) where
+module _ {S : Type 0} (place_of : S → RawPlace) (content : S → Option (List ℕ)) (at_start now : Type 0) (s : Scenario) (done : List Op) (left : List Op) where
   -- the logs after an operation, and what the operations after it need
   pub record GoesOn (o : Op) (g : Holding S) (next : Shelves S) : Type 0 where
     pub logs : HasLogs at_start s (done ++ o ∷ []) next.board g.log
@@ -56,7 +56,7 @@ module _ {S : Type 0} (place_of : S → RawPlace) (at_start now : Type 0) (s : S
   logs_plain : (x : Op) (o : PlainOp) (f : Holding S) (stock : Shelves S) (g : Holding S) (next : Shelves S)
       → op_at s (by_call (length done + 1)) ≡ Some x → (at_start → now) → f.shape ≡ s.shape
       → HasLogs at_start s done stock.board f.log → IsPlain x o
-      → DoesPlain place_of (by_call (length done + 1)) o now f stock g next
+      → DoesPlain place_of content (by_call (length done + 1)) o now f stock g next
       → HasLogs at_start s (done ++ x ∷ []) next.board g.log
   logs_plain x o f stock g next known tell shape h is d =
       let plays = d.plays in
@@ -102,25 +102,25 @@ module _ {S : Type 0} (place_of : S → RawPlace) (at_start now : Type 0) (s : S
   pub goes_on : (o : Op) (f : Holding S) (stock : Shelves S) (g : Holding S) (next : Shelves S)
       → op_at s (by_call (length done + 1)) ≡ Some o → (at_start → now)
       → HasLogs at_start s done stock.board f.log → MayGoOn place_of s.shape (o ∷ left) f stock
-      → Does o place_of (by_call (length done + 1)) now f stock g next
+      → Does o place_of content (by_call (length done + 1)) now f stock g next
       → GoesOn o g next
   goes_on (op.Create file) f stock g next known tell h m d = record {
     logs = logs_plain (op.Create file) plain.Create f stock g next known tell m.file_shape h (m.each.0, refl) d;
-    may = MayGoOn-plain place_of s.shape (op.Create file) left plain.Create (by_call (length done + 1)) now f stock g next m d refl (omega arith) (λ some. tt);
+    may = MayGoOn-plain place_of content s.shape (op.Create file) left plain.Create (by_call (length done + 1)) now f stock g next m d refl (omega arith) (λ some. tt);
   }
   goes_on (op.WriteText file offset text) f stock g next known tell h m d = record {
     logs = logs_plain (op.WriteText file offset text) (plain.Write text) f stock g next known tell m.file_shape h (m.each.0.0, m.each.0.1, refl) d;
-    may = MayGoOn-plain place_of s.shape (op.WriteText file offset text) left (plain.Write text) (by_call (length done + 1)) now f stock g next m d refl
+    may = MayGoOn-plain place_of content s.shape (op.WriteText file offset text) left (plain.Write text) (by_call (length done + 1)) now f stock g next m d refl
         (omega arith) (λ some. let one = m.one_write in absurd (omega (arith, one, some)));
   }
   goes_on (op.Read file offset len) f stock g next known tell h m d = record {
     logs = logs_plain (op.Read file offset len) (plain.Read offset len) f stock g next known tell m.file_shape h (m.each.0.0, refl) d;
-    may = MayGoOn-plain place_of s.shape (op.Read file offset len) left (plain.Read offset len) (by_call (length done + 1)) now f stock g next m d refl
+    may = MayGoOn-plain place_of content s.shape (op.Read file offset len) left (plain.Read offset len) (by_call (length done + 1)) now f stock g next m d refl
         (omega arith) (λ some. tt);
   }
   goes_on (op.Fail drive) f stock g next known tell h m d = record {
     logs = logs_fail drive f stock g next known m.stock_shape m.each.0.1 h d;
-    may = MayGoOn-fail place_of s.shape drive left (by_call (length done + 1)) f stock g next m d;
+    may = MayGoOn-fail place_of content s.shape drive left (by_call (length done + 1)) f stock g next m d;
   }
 
 first_true : (a b : Bool) → (a && b) ≡ true → a ≡ true
@@ -152,19 +152,19 @@ next_left script at o within here =
     drop-cons script at o within ∙ ap (λ (x : Op). x ∷ drop (ℕ.suc at) script) (sym here) ∙ ap (λ (n : ℕ). o ∷ drop n script) (sym (add-one at))
 
 -- one turn over the script: the operation of this place was done
-pub turn : {S : Type 0} (place_of : S → RawPlace) (at_start now : Type 0) (s : Scenario) (script : List Op) (at call : ℕ) (o : Op)
+pub turn : {S : Type 0} (place_of : S → RawPlace) (content : S → Option (List ℕ)) (at_start now : Type 0) (s : Scenario) (script : List Op) (at call : ℕ) (o : Op)
     (f : Holding S) (stock : Shelves S) (g : Holding S) (next : Shelves S)
     → s.actors ≡ script ∷ [] → at < length script → o ≡ get_or script at o → call ≡ at
     → HasLogs at_start s (take at script) stock.board f.log → MayGoOn place_of s.shape (drop at script) f stock → (at_start → now)
-    → Does o place_of (by_call (call + 1)) now f stock g next
+    → Does o place_of content (by_call (call + 1)) now f stock g next
     → HasLogs at_start s (take (at + 1) script) next.board g.log × MayGoOn place_of s.shape (drop (at + 1) script) g next
-turn place_of at_start now s script at call o f stock g next one within here same logs may tell does =
+turn place_of content at_start now s script at call o f stock g next one within here same logs may tell does =
     let many : length (take at script) ≡ at = length-take-le at script (omega arith) in
     let found = slice_get-get_or script at o within ∙ ap (λ (x : Op). Some x) (sym here) in
     let known = subst (λ (n : ℕ). op_at s (by_call (n + 1)) ≡ Some o) (sym many) (op_at-one s script o at one found) in
     let front = take_more script at o within ∙ ap (λ (x : Op). take at script ++ x ∷ []) (sym here) in
     let back = next_left script at o within here in
-    let did = subst (λ (n : ℕ). Does o place_of (by_call (n + 1)) now f stock g next) (same ∙ sym many) does in
-    let gone = goes_on place_of at_start now s (take at script) (drop (at + 1) script) o f stock g next known tell logs
+    let did = subst (λ (n : ℕ). Does o place_of content (by_call (n + 1)) now f stock g next) (same ∙ sym many) does in
+    let gone = goes_on place_of content at_start now s (take at script) (drop (at + 1) script) o f stock g next known tell logs
     (subst (λ (l : List Op). MayGoOn place_of s.shape l f stock) back may) did in
     (subst (λ (l : List Op). HasLogs at_start s l next.board g.log) (sym front) gone.logs, gone.may)

@@ -1,5 +1,5 @@
 -- What one operation leaves of what the operations after it may need.
-use Rattle.std.proofs.Common.{◌≡◌, ◌≤◌, false, List, [], ◌∷◌, ◌++◌, length, ap, sym, ◌∙◌, subst, arith, length-append}
+use Rattle.std.proofs.Common.{◌≡◌, ◌≤◌, ℕ, false, Option, List, [], ◌∷◌, ◌++◌, length, ap, sym, ◌∙◌, subst, arith, length-append}
 use Rattle.flex_io.specs.declared.raw_place.RawPlace.{RawPlace}
 use Rattle.domains.specs.Drive.{Drive, same_spot}
 use Rattle.domains.specs.Cluster.{Cluster}
@@ -24,10 +24,10 @@ IsUnwritten-plain by o board tell f g idle plays h =
     (All-push (λ (t : Told). is_placing t.entry.event ≡ false) f.log plays.told h
     (ap (λ (t : Told). is_placing t.entry.event) plays.is_told ∙ is_placing-plain plays.event o idle plays.answers))
 
-module _ {S : Type 0} (place_of : S → RawPlace) (shape : Cluster) where
+module _ {S : Type 0} (place_of : S → RawPlace) (content : S → Option (List ℕ)) (shape : Cluster) where
   -- a plain operation leaves what the operations after it need
   pub MayGoOn-plain : (x : Op) (left : List Op) (o : PlainOp) (by : By) (tell : Type 0) (f : Holding S) (stock : Shelves S) (g : Holding S) (next : Shelves S)
-      → MayGoOn place_of shape (x ∷ left) f stock → DoesPlain place_of by o tell f stock g next
+      → MayGoOn place_of shape (x ∷ left) f stock → DoesPlain place_of content by o tell f stock g next
       → slots_for o ≡ slots_taken x → write_count left ≤ write_count (x ∷ left) → (1 ≤ write_count left → is_no_write o)
       → MayGoOn place_of shape left g next
   MayGoOn-plain x left o by tell f stock g next h d taken fewer idle = record {

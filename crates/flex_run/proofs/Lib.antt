@@ -8,5 +8,7 @@ pub mod Stacks
 pub mod Places
 pub mod Doing
 pub mod Starts
+pub mod Leaving
 pub mod Runs
+pub mod Backs
 pub mod Results

@@ -18,7 +18,7 @@ count_by-cons p x xs = sum_by-cons (λ y. cond (p y) 1 0) x xs
 count_by-append : {X : Type 0} (p : X → Bool) (xs ys : List X) → count_by p (xs ++ ys) ≡ count_by p xs + count_by p ys
 count_by-append p xs ys = sum_by-append (λ y. cond (p y) 1 0) xs ys
 
-count_by-map : {X Y : Type 0} (p : Y → Bool) (f : X → Y) (xs : List X) → count_by (λ x. p (f x)) xs ≡ count_by p (map f xs)
+pub count_by-map : {X Y : Type 0} (p : Y → Bool) (f : X → Y) (xs : List X) → count_by (λ x. p (f x)) xs ≡ count_by p (map f xs)
 count_by-map p f [] = refl
 count_by-map p f (x ∷ xs) =
     count_by-cons (λ y. p (f y)) x xs ∙ ap (λ n. one_of (p (f x)) + n) (count_by-map p f xs) ∙ sym (count_by-cons p (f x) (map f xs))

@@ -24,7 +24,7 @@ use Rattle.flex_run.proofs.Pushes.{All-map}
 abbrev pub logs_of : Scenario → List BoardEntry → List Told → Logs
 logs_of s board log = record { scenario = s; board = board; files = entries_of log ∷ [] }
 
-all_told-entries : (log : List Told) (s : Scenario) → AllByRecursion (λ (t : Told). told_in s t.entry ≡ t) log → all_told s (entries_of log) ≡ log
+pub all_told-entries : (log : List Told) (s : Scenario) → AllByRecursion (λ (t : Told). told_in s t.entry ≡ t) log → all_told s (entries_of log) ≡ log
 all_told-entries [] s all = refl
 all_told-entries (t ∷ ts) s all =
     ap (λ (u : Told). u ∷ all_told s (entries_of ts)) all.0 ∙ ap (λ (l : List Told). t ∷ l) (all_told-entries ts s all.1)

@@ -1,5 +1,5 @@
 -- What an operation asks of a run, and what it does.
-use Rattle.std.specs.Prelude.{◌≡◌, ℕ, ◌+◌, ◌≤◌, true, Bool, List, [], ◌∷◌, ◌++◌, ⊤}
+use Rattle.std.specs.Prelude.{◌≡◌, ℕ, ◌+◌, ◌≤◌, true, Bool, List, [], ◌∷◌, ◌++◌, Option, ⊤}
 use Rattle.flex_io.specs.declared.raw_place.RawPlace.{RawPlace}
 use Rattle.domains.specs.Drive.{Drive, Spot}
 use Rattle.domains.specs.Cluster.{Cluster, is_of}
@@ -7,7 +7,7 @@ use Rattle.domains.specs.declared.by.By.{By}
 use Rattle.board_log.specs.Board.{effect_of}
 use Rattle.board_log.specs.declared.entry.Order.TheVariants as order
 use Rattle.board_log.specs.declared.entry.BoardEntry.{BoardEntry}
-use Rattle.file_core.specs.Plain.{Shelves, Holding, Plays, MayPlay, slots_for, free_on, count_all}
+use Rattle.file_core.specs.Plain.{Shelves, Holding, Plays, MayPlay, slots_for, free_on, count_all, Keeps, SortsSlots}
 use Rattle.file_core.specs.declared.plain.op.PlainOp.{PlainOp}
 use Rattle.file_core.specs.declared.plain.op.PlainOp.TheVariants as plain
 use Rattle.scenarios.specs.declared.op.Op.{Op}
@@ -36,13 +36,15 @@ MayDo (op.Read file offset len) f stock = ⊤
 MayDo (op.Fail drive) f stock = is_of stock.shape drive ≡ true
 
 -- the file did a plain operation beside the board, which stays
-pub record DoesPlain {S : Type 0} (place_of : S → RawPlace) (by : By) (o : PlainOp) (tell : Type 0) (f : Holding S) (stock : Shelves S) (g : Holding S) (next : Shelves S) : Type 0 where
+pub record DoesPlain {S : Type 0} (place_of : S → RawPlace) (content : S → Option (List ℕ)) (by : By) (o : PlainOp) (tell : Type 0) (f : Holding S) (stock : Shelves S) (g : Holding S) (next : Shelves S) : Type 0 where
   pub plays : Plays by o stock.board tell f g
+  pub keeps : Keeps place_of content g
   pub shape : g.shape ≡ f.shape
   pub stock_shape : next.shape ≡ stock.shape
   pub board : next.board ≡ stock.board
   pub conserved : (p : Spot → Bool) → count_all place_of p g next ≡ count_all place_of p f stock
   pub spared : (d : Drive) → free_on place_of d stock ≤ free_on place_of d next + slots_for o
+  pub sorted : SortsSlots place_of stock next
 
 -- the board took an order to fail a drive, and the file stays
 pub record DoesFail {S : Type 0} (by : By) (d : Drive) (f : Holding S) (stock : Shelves S) (g : Holding S) (next : Shelves S) : Type 0 where
@@ -50,8 +52,8 @@ pub record DoesFail {S : Type 0} (by : By) (d : Drive) (f : Holding S) (stock : 
   pub stock_is : next ≡ record stock { board = stock.board ++ fail_entry stock.shape stock.board by d ∷ [] }
 
 -- the operation was done
-abbrev pub Does : {S : Type 0} → Op → (S → RawPlace) → By → Type 0 → Holding S → Shelves S → Holding S → Shelves S → Type 0
-Does (op.Create file) place_of by tell f stock g next = DoesPlain place_of by plain.Create tell f stock g next
-Does (op.WriteText file offset text) place_of by tell f stock g next = DoesPlain place_of by (plain.Write text) tell f stock g next
-Does (op.Read file offset len) place_of by tell f stock g next = DoesPlain place_of by (plain.Read offset len) tell f stock g next
-Does (op.Fail drive) place_of by tell f stock g next = DoesFail by drive f stock g next
+abbrev pub Does : {S : Type 0} → Op → (S → RawPlace) → (S → Option (List ℕ)) → By → Type 0 → Holding S → Shelves S → Holding S → Shelves S → Type 0
+Does (op.Create file) place_of content by tell f stock g next = DoesPlain place_of content by plain.Create tell f stock g next
+Does (op.WriteText file offset text) place_of content by tell f stock g next = DoesPlain place_of content by (plain.Write text) tell f stock g next
+Does (op.Read file offset len) place_of content by tell f stock g next = DoesPlain place_of content by (plain.Read offset len) tell f stock g next
+Does (op.Fail drive) place_of content by tell f stock g next = DoesFail by drive f stock g next

@@ -8,6 +8,8 @@ use Rattle.report.specs.Script.{HasSerialEpochs}
 use Rattle.report.specs.Legal.{IsLegalRun}
 use Rattle.report.specs.Printed.{printed}
 use Rattle.report.specs.declared.logs.Logs.{Logs}
+use Rattle.flex_io.specs.declared.rack.Returned.{Returned}
+use Rattle.flex_run.specs.Back.{BringsBack}
 
 -- the bytes are UTF-8 and spell this scenario, which is of the first form
 pub record IsPlayed (input : List ℕ) (s : Scenario) : Type 0 where
@@ -25,21 +27,29 @@ pub record AreLogsOf (input : List ℕ) (logs : Logs) : Type 0 where
   pub legal : IsLegalRun logs
   pub serial : HasSerialEpochs logs
 
--- the text prints the logs of a legal run of the scenario that the input spells
-pub record IsReport (input text : List ℕ) : Type 0 where
+-- the text prints the logs of a legal run of the scenario that the input spells, and the slots came back to the rack as these
+-- logs say
+pub record IsReport (input text : List ℕ) (back_before back_now : Option (List Returned)) : Type 0 where
   pub logs : Logs
   pub run : AreLogsOf input logs
   pub prints : text ≡ printed logs
+  pub back : BringsBack back_before back_now logs
 
--- the sink took the printed logs of a legal run of the scenario that the input spells
-pub record RanLegally (input : List ℕ) (before now : Option (List ℕ)) : Type 0 where
+-- the sink took the printed logs of a legal run of the scenario that the input spells, and the slots came back to the rack as
+-- these logs say
+pub record RanLegally (input : List ℕ) (before now : Option (List ℕ)) (back_before back_now : Option (List Returned)) : Type 0 where
   pub logs : Logs
   pub run : AreLogsOf input logs
   pub taken : Appends before now (printed logs)
+  pub back : BringsBack back_before back_now logs
 
 -- the status is this one, or that of a line that could not be written
 abbrev pub IsOrUnwritten : ℕ → ℕ → Type 0
 IsOrUnwritten status result = (result ≡ status) ⊎ (result ≡ 5) ⊎ (result ≡ 6)
+
+-- the status is that of a scenario that was played, or was not since a device failed or memory ran out
+abbrev pub IsRunStatus : ℕ → Type 0
+IsRunStatus result = (result ≡ 4) ⊎ (result ≡ 8) ⊎ IsOrUnwritten 0 result
 
 -- the lines that tell why there is no report, each after its status
 abbrev pub fault_lines : List (ℕ × List ℕ)

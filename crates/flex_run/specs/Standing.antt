@@ -1,15 +1,17 @@
 -- What holds of a run after its first operations.
-use Rattle.std.specs.Prelude.{◌≡◌, ℕ, ◌+◌, ◌<◌, ◌≤◌, true, List, [], ◌∷◌, length, map, Some, slice_get, count_by}
+use Rattle.std.specs.Prelude.{◌≡◌, ℕ, ◌+◌, ◌<◌, ◌≤◌, true, List, [], ◌∷◌, length, map, Option, Some, slice_get, count_by, Bool}
 use Rattle.std.specs.List.{AllByRecursion}
 use Rattle.flex_io.specs.declared.raw_place.RawPlace.{RawPlace}
-use Rattle.domains.specs.Drive.{Drive, IsDrive}
+use Rattle.domains.specs.Drive.{Drive, Spot, IsDrive, same_spot}
 use Rattle.domains.specs.Cluster.{Cluster, is_of}
 use Rattle.domains.specs.Level.{two_copies}
 use Rattle.domains.specs.declared.by.By.{By}
+use Rattle.board_log.specs.Board.{up_after}
 use Rattle.board_log.specs.declared.entry.BoardEntry.{BoardEntry}
 use Rattle.file_core.specs.World.{world_of}
 use Rattle.file_core.specs.Step.{IsLegalLog}
-use Rattle.file_core.specs.Plain.{Shelves, Holding, OneEach, IsUnwritten, free_on}
+use Rattle.file_core.specs.Slots.{count_at}
+use Rattle.file_core.specs.Plain.{Shelves, Holding, OneEach, IsUnwritten, free_on, count_all, AllTell, Keeps}
 use Rattle.file_core.specs.declared.entry.FileEntry.{FileEntry}
 use Rattle.file_core.specs.declared.entry.Told.{Told}
 use Rattle.scenarios.specs.declared.op.Op.{Op}
@@ -72,3 +74,18 @@ pub record MayGoOn {S : Type 0} (place_of : S → RawPlace) (shape : Cluster) (l
   pub room : (d : Drive) → IsDrive d → is_of shape d ≡ true → all_taken left ≤ free_on place_of d stock
   pub one_write : write_count left ≤ 1
   pub unwritten : 1 ≤ write_count left → IsUnwritten f.log
+
+-- no retired slot stands on a drive that is up
+abbrev pub AreLost : {S : Type 0} → (S → RawPlace) → Shelves S → Type 0
+AreLost place_of stock =
+    (s : Spot) → up_after stock.shape stock.board (length stock.board) s.drive ≡ true → count_at place_of (same_spot s) stock.retired ≡ 0
+
+-- what some operations leave of a file and its stock: the file is stored, retired slots stand on lost drives, and no slot was
+-- lost or made
+pub record Leaves {S : Type 0} (place_of : S → RawPlace) (content : S → Option (List ℕ)) (shape : Cluster) (f : Holding S) (stock : Shelves S) (g : Holding S) (next : Shelves S) : Type 0 where
+  pub file_shape : g.shape ≡ shape
+  pub stock_shape : next.shape ≡ shape
+  pub keeps : Keeps place_of content g
+  pub lost : AreLost place_of next
+  pub conserved : (p : Spot → Bool) → count_all place_of p g next ≡ count_all place_of p f stock
+  pub tell : AllTell content f stock → AllTell content g next

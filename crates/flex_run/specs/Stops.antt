@@ -1,5 +1,5 @@
 -- What is told where no report is.
-use Rattle.std.specs.Prelude.{codes, ◌≡◌, ◌⊎◌, ℕ, List, Result, Err}
+use Rattle.std.specs.Prelude.{codes, ◌≡◌, ◌⊎◌, ℕ, List, Result, Err, IsOk}
 use Rattle.flex_run.specs.declared.stop.Stop.{Stop}
 use Rattle.flex_run.specs.declared.stop.Stop.TheVariants.{Words, Read, Long, Unbuilt, Rack, Memory}
 
@@ -32,6 +32,14 @@ IsTextStop stop = (stop ≡ Unbuilt) ⊎ (stop ≡ Memory)
 -- why a play gives no logs
 abbrev pub IsPlayStop : Stop → Type 0
 IsPlayStop stop = (stop ≡ Rack) ⊎ (stop ≡ Memory)
+
+-- what answers a source that gave too much
+abbrev pub IsTooLong : {T : Type 0} → Result T Stop → Type 0
+IsTooLong result = (result ≡ Err Long) ⊎ (result ≡ Err Read) ⊎ (result ≡ Err Memory)
+
+-- what answers a text that may be played
+abbrev pub IsRunResult : {T : Type 0} → Result T Stop → Type 0
+IsRunResult result = IsOk result ⊎ (result ≡ Err Read) ⊎ (result ≡ Err Rack) ⊎ (result ≡ Err Memory)
 
 -- what answers a text that may not be played
 abbrev pub IsRefusal : {T : Type 0} → Result T Stop → Type 0

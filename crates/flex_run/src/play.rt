@@ -1,6 +1,8 @@
 //! The play of a scenario by its one actor, over slots from a rack.
 
 ghost use Rattle.std.specs.Prelude.{List, ◌≡◌, ◌<◌, ◌≤◌, ◌^◌, ◌+◌, [], ◌∷◌, length, ◌++◌, IsSome, IfOk, OnOk};
+ghost use Rattle.std.specs.Result.{IsErrOf};
+ghost use Rattle.flex_io.specs.Faults.{HasRisen};
 ghost use Rattle.domains.specs.Level.{two_copies};
 ghost use Rattle.board_log.specs.declared.entry.BoardEntry.{BoardEntry};
 ghost use Rattle.file_core.specs.Plain.{AllTell, OneEach, HasRoom};
@@ -9,8 +11,10 @@ ghost use Rattle.scenario_text.specs.FirstForm.{IsFirstForm};
 ghost use Rattle.report.specs.Script.{HasSerialEpochs};
 ghost use Rattle.report.specs.Legal.{IsLegalRun};
 ghost use Rattle.flex_run.specs.StockOrder.{PutsBack};
+ghost use Rattle.flex_run.specs.Back.{BringsBack};
+ghost use Rattle.flex_run.specs.Faults.{SlotFailed, RackFailed};
 ghost use Rattle.flex_run.specs.Play.{slots_taken, by_call, MayDo, Does};
-ghost use Rattle.flex_run.specs.Standing.{entries_of, HasLogs, MayGoOn};
+ghost use Rattle.flex_run.specs.Standing.{entries_of, HasLogs, MayGoOn, Leaves};
 
 use crate::slots::{put_all, take_all};
 use board_log::BoardEntry;
@@ -33,6 +37,12 @@ pub enum PlayFault {
 }
 
 impl From<Fault> for PlayFault {
+    ghost use Rattle.std.specs.Prelude.{◌≡◌};
+    ghost use Rattle.flex_io.specs.declared.fault.Fault.TheVariants.{Failed};
+    ghost use Rattle.flex_run.specs.declared.play.PlayFault.TheVariants.{Rack};
+
+    ghost from_gives = { λ fault told. told ≡ Rack → fault ≡ Failed };
+
     fn from(fault: Fault) -> PlayFault {
         match fault {
             Fault::Failed => PlayFault::Rack,
@@ -41,7 +51,24 @@ impl From<Fault> for PlayFault {
     }
 }
 
+impl From<AllocError> for PlayFault {
+    ghost use Rattle.std.specs.Prelude.{◌≡◌};
+    ghost use Rattle.flex_run.specs.declared.play.PlayFault.TheVariants.{NoMemory};
+
+    ghost from_gives = { λ _ told. told ≡ NoMemory };
+
+    fn from(_fault: AllocError) -> PlayFault {
+        PlayFault::NoMemory
+    }
+}
+
 impl From<PlainFault> for PlayFault {
+    ghost use Rattle.std.specs.Prelude.{◌≡◌};
+    ghost use Rattle.file_core.specs.declared.plain.op.PlainFault.TheVariants.{Slot};
+    ghost use Rattle.flex_run.specs.declared.play.PlayFault.TheVariants.{Rack};
+
+    ghost from_gives = { λ fault told. told ≡ Rack → fault ≡ Slot };
+
     fn from(fault: PlainFault) -> PlayFault {
         match fault {
             PlainFault::Slot => PlayFault::Rack,
@@ -64,6 +91,9 @@ where
     ensures scenario { IfOk result (λ logs. logs.scenario ≡ scenario) }
     ensures legal { IfOk result (λ logs. IsSome (R.back rack.old) → IsLegalRun logs) }
     ensures serial { IfOk result HasSerialEpochs }
+    ensures back { IfOk result (BringsBack (R.back rack.old) (R.back rack.new)) }
+    ensures fault { IsErrOf result PlayFault.Rack → RackFailed R.Piece.place_of R.Piece.faults (R.faults rack.old) (R.faults rack.new) }
+    ensures never_falls { R.faults rack.old ≤ R.faults rack.new }
 {
     let slots = take_all(alloc, scenario.shape, rack)?;
     let mut stock = Stock::new(alloc, scenario.shape, slots);
@@ -84,8 +114,11 @@ fn play_script<S: Slot + Drop + Steady, G: Gate>(
     requires file { file.old ≡ record { shape = scenario.now.shape; log = []; units = []; inode = [] } }
     requires left { (script : List Op) → scenario.now.actors ≡ script ∷ [] → MayGoOn S.place_of scenario.now.shape script file.old stock.old }
     requires board { stock.old.board ≡ [] }
-    ensures { OnOk result ((script : List Op) → scenario.now.actors ≡ script ∷ []
+    requires begins { Leaves S.place_of S.content scenario.now.shape file.old stock.old file.old stock.old }
+    ensures logs { OnOk result ((script : List Op) → scenario.now.actors ≡ script ∷ []
         → HasLogs (AllTell S.content file.old stock.old) scenario.now script stock.new.board file.new.log) }
+    ensures leaves { OnOk result (Leaves S.place_of S.content scenario.now.shape file.old stock.old file.new stock.new) }
+    ensures fault { IsErrOf result PlainFault.Slot → SlotFailed S.place_of S.faults }
 {
     let script = only_script(scenario);
     let mut call = 0;
@@ -126,8 +159,9 @@ fn play_op<S: Slot + Drop + Steady>(
     requires may { MayDo op.now file.old stock.old }
     requires one_each { OneEach S.place_of file.old stock.old }
     requires room { HasRoom S.place_of (slots_taken op.now) stock.old }
-    ensures does { OnOk result (Does op.now S.place_of by (AllTell S.content file.old stock.old) file.old stock.old file.new stock.new) }
+    ensures does { OnOk result (Does op.now S.place_of S.content by (AllTell S.content file.old stock.old) file.old stock.old file.new stock.new) }
     ensures tell { OnOk result (AllTell S.content file.old stock.old → AllTell S.content file.new stock.new) }
+    ensures fault { IsErrOf result PlainFault.Slot → SlotFailed S.place_of S.faults }
 {
     match op {
         Op::Create { .. } => file.play(alloc, by, &PlainOp::Create, stock),
@@ -169,6 +203,8 @@ where
     ensures logs { IfOk result (λ logs. logs ≡ record { scenario = scenario; board = stock.board; files = entries_of file.log ∷ [] }) }
     ensures back { OnOk result (PutsBack (R.back rack.old) (R.back rack.new) R.Piece.place_of R.Piece.content
         (file.units ++ (file.inode ++ (stock.retired ++ stock.free)))) }
+    ensures fault { IsErrOf result PlayFault.Rack → HasRisen (R.faults rack.old) (R.faults rack.new) }
+    ensures never_falls { R.faults rack.old ≤ R.faults rack.new }
 {
     let PlainParts { log, units, inode } = file.close(alloc)?;
     let StockParts {

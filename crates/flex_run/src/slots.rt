@@ -3,7 +3,7 @@
 ghost use Rattle.std.specs.Prelude.{◌≡◌, ◌++◌, ◌≤◌, [], Some, IsSome, IfOk, OnOk};
 ghost use Rattle.std.specs.Result.{IsErrOf};
 ghost use Rattle.domains.specs.Cluster.{IsCluster};
-ghost use Rattle.flex_io.specs.Faults.{HasRisen};
+ghost use Rattle.flex_io.specs.Faults.{HasCause};
 ghost use Rattle.file_core.specs.Slots.{Tell};
 ghost use Rattle.flex_run.specs.StockOrder.{drive_stack, node_stacks, stock_order, spots_of, PutsBack};
 
@@ -21,6 +21,8 @@ pub(crate) fn take_all<R: Rack>(
     ensures order { IfOk result (λ slots. spots_of R.Piece.place_of slots ≡ stock_order shape) }
     ensures tell { IfOk result (λ slots. IsSome (R.back rack.old) → Tell R.Piece.content slots) }
     ensures same { R.back rack.new ≡ R.back rack.old }
+    ensures fault { HasCause result (R.faults rack.old) (R.faults rack.new) }
+    ensures never_falls { R.faults rack.old ≤ R.faults rack.new }
 {
     let mut slots = Vec::new(alloc);
     slots.reserve(count_of(shape)).map_err(|_| Fault::NoMemory)?;
@@ -46,6 +48,8 @@ fn take_node<R: Rack>(
         ≡ spots_of R.Piece.place_of slots.old.items ++ node_stacks shape.drives node shape.slots) }
     ensures tell { IsSome (R.back rack.old) → Tell R.Piece.content slots.old.items → Tell R.Piece.content slots.new.items }
     ensures same { R.back rack.new ≡ R.back rack.old }
+    ensures fault { HasCause result (R.faults rack.old) (R.faults rack.new) }
+    ensures never_falls { R.faults rack.old ≤ R.faults rack.new }
 {
     for drive in 0..shape.drives() {
         take_drive(shape.slots(), (node, drive + 1), rack, slots)?;
@@ -64,6 +68,8 @@ fn take_drive<R: Rack>(
         ≡ spots_of R.Piece.place_of slots.old.items ++ drive_stack count (record { node = drive.0; drive = drive.1 })) }
     ensures tell { IsSome (R.back rack.old) → Tell R.Piece.content slots.old.items → Tell R.Piece.content slots.new.items }
     ensures same { R.back rack.new ≡ R.back rack.old }
+    ensures fault { HasCause result (R.faults rack.old) (R.faults rack.new) }
+    ensures never_falls { R.faults rack.old ≤ R.faults rack.new }
 {
     for turn in 0..count {
         let piece = rack.take(drive, count - 1 - turn)?;
@@ -74,7 +80,9 @@ fn take_drive<R: Rack>(
 
 /// Puts slots back, in their order.
 pub(crate) fn put_all<R: Rack>(rack: &mut R, slots: List<R::Piece>) -> Result<(), Fault>
-    ensures { OnOk result (PutsBack (R.back rack.old) (R.back rack.new) R.Piece.place_of R.Piece.content slots) }
+    ensures back { OnOk result (PutsBack (R.back rack.old) (R.back rack.new) R.Piece.place_of R.Piece.content slots) }
+    ensures fault { HasCause result (R.faults rack.old) (R.faults rack.new) }
+    ensures never_falls { R.faults rack.old ≤ R.faults rack.new }
 {
     for piece in slots.into_vec() {
         rack.put(piece)?;

@@ -1,17 +1,19 @@
 //! Runs as they are seen from outside: what the sink takes, and what comes back to the rack.
 
+mod devices;
+mod failing_rack;
+
 use crate::flex;
-use flex_io::{MemorySink, MemorySource, OpenGate, SureRack, SureSink, SureSource};
-use lists::List;
+use flex_io::{OpenGate, SureRack, SureSink, SureSource};
 use std::alloc::Global;
 use std::test::Fail;
 
 /// Two nodes of one drive, and a mirrored file that is created, written and read.
-const FIRST: &str =
+pub(crate) const FIRST: &str =
     "unit = 8\nnodes = 2\ndrives = 1\nslots = 16\n[[file]]\nname = \"a\"\nlevel = \"2x\"\n[[actor]]\nops = [\"create a\", \"write a 0 text:hello\", \"read a 0 5\"]\n";
 
 /// Its report, as docs/FORMATS.md works it.
-const FIRST_REPORT: &str =
+pub(crate) const FIRST_REPORT: &str =
     "report 1\nunit = 8\nnodes = 2\ndrives = 1\nslots = 16\nworkers = 1\n[[file]]\nname = \"a\"\nlevel = \"2x\"\n[[actor]]\nops = [\n\"create a\",\n\"write a 0 text:hello\",\n\"read a 0 5\",\n]\nboard 0\nengine 0\nfile a 3\n1.1 e0 create 2x inode 0=1+1@1/1:0,2/1:0\n1.2 e0 write 0 5 size 5 old - new 1=1+1@2/1:1,1/1:1 inode 2=1+1@1/1:2,2/1:2\n1.3 e0 read 0 5 shown 68656c6c6f\nend\n";
 
 /// The same cluster, whose drives are lost one after the other: the first loss leaves a copy, the second none.
@@ -28,7 +30,18 @@ const ONE_NODE: &str =
 const ONE_NODE_REPORT: &str =
     "report 1\nunit = 8\nnodes = 1\ndrives = 1\nslots = 16\nworkers = 1\n[[file]]\nname = \"a\"\nlevel = \"2x\"\n[[actor]]\nops = [\n\"create a\",\n\"write a 0 text:hello\",\n\"read a 0 5\",\n]\nboard 0\nengine 0\nfile a 3\n1.1 e0 create 2x refused toofew 1 2\n1.2 e0 write 0 5 refused absent\n1.3 e0 read 0 5 refused absent\nend\n";
 
-fn words(alloc: Global, word: &str) -> Result<Vec<String>, Fail> {
+/// Three nodes of two drives: reads past the end and of no bytes, after the loss of one copy.
+const EDGES: &str =
+    "unit = 8\nnodes = 3\ndrives = 2\nslots = 4\n[[file]]\nname = \"a\"\nlevel = \"2x\"\n[[actor]]\nops = [\"create a\", \"write a 0 text:hello\", \"fail 2/1\", \"read a 3 10\", \"read a 0 0\", \"read a 9 4\"]\n";
+
+const EDGES_REPORT: &str =
+    "report 1\nunit = 8\nnodes = 3\ndrives = 2\nslots = 4\nworkers = 1\n[[file]]\nname = \"a\"\nlevel = \"2x\"\n[[actor]]\nops = [\n\"create a\",\n\"write a 0 text:hello\",\n\"fail 2/1\",\n\"read a 3 10\",\n\"read a 0 0\",\n\"read a 9 4\",\n]\nboard 1\n1.3 fail 2/1 changed\nengine 0\nfile a 5\n1.1 e0 create 2x inode 0=1+1@1/1:0,2/1:0\n1.2 e0 write 0 5 size 5 old - new 1=1+1@2/1:1,3/1:0 inode 2=1+1@3/1:1,1/1:1\n1.4 e1 read 3 10 shown 6c6f\n1.5 e1 read 0 0 shown -\n1.6 e1 read 9 4 shown -\nend\n";
+
+/// A drive is lost that holds a copy of the inode which the write replaces.
+const REPLACED: &str =
+    "unit = 8\nnodes = 3\ndrives = 1\nslots = 3\n[[file]]\nname = \"a\"\nlevel = \"2x\"\n[[actor]]\nops = [\"create a\", \"fail 2/1\", \"write a 0 text:hello\", \"read a 0 8\"]\n";
+
+pub(crate) fn words(alloc: Global, word: &str) -> Result<Vec<String>, Fail> {
     Ok(vec![in alloc; String::from_str(alloc, word)?]?)
 }
 
@@ -39,6 +52,7 @@ fn sources_run_as_documented(rt: HostRuntime) -> Result<(), Fail> {
         ("run", FIRST, 0, FIRST_REPORT),
         ("run", LOSSES, 0, LOSSES_REPORT),
         ("run", ONE_NODE, 0, ONE_NODE_REPORT),
+        ("run", EDGES, 0, EDGES_REPORT),
         ("run", "", 3, "fault scenario unbuilt 0 0\n"),
         ("play", FIRST, 2, "fault words\n"),
     ] {
@@ -85,29 +99,25 @@ fn all_slots_come_back_the_file_s_first(rt: HostRuntime) -> Result<(), Fail> {
 }
 
 #[test]
-fn a_device_that_fails_is_told(rt: HostRuntime) -> Result<(), Fail> {
+fn the_slot_of_a_lost_drive_comes_back_behind_the_file_s(rt: HostRuntime) -> Result<(), Fail> {
     let alloc = rt.alloc();
-    for (source_fails, sink_fails, status, taken) in [
-        (1, 9, 4, "fault read\n"),
-        (2, 9, 4, "fault read\n"),
-        (9, 1, 5, ""),
-    ] {
-        let source_fails = List::from_vec(vec![in alloc; source_fails]?);
-        let sink_fails = List::from_vec(vec![in alloc; sink_fails]?);
-        let mut source = MemorySource::new(FIRST.as_bytes().to_vec(alloc)?, source_fails);
-        let mut sink = MemorySink::new(alloc, sink_fails);
-        let mut rack = SureRack::new(alloc);
-        let words = words(alloc, "run")?;
-        let answer = flex(
-            alloc,
-            words.as_slice(),
-            &mut source,
-            &mut sink,
-            &mut rack,
-            &OpenGate,
-        );
-        assert_eq!(rt; answer, status);
-        assert_eq!(rt; sink.as_slice(), taken.as_bytes());
-    }
+    let mut source = SureSource::new(REPLACED.as_bytes().to_vec(alloc)?);
+    let mut rack = SureRack::new(alloc);
+    let words = words(alloc, "run")?;
+    let answer = flex(
+        alloc,
+        words.as_slice(),
+        &mut source,
+        &mut SureSink::new(alloc),
+        &mut rack,
+        &OpenGate,
+    );
+    assert_eq!(rt; answer, 0);
+    assert_eq!(rt; rack.back().len(), 9);
+    let retired = &rack.back()[4];
+    assert_eq!(rt;
+        (retired.place.node, retired.place.drive, retired.place.slot),
+        (2, 1, 0)
+    );
     Ok(())
 }

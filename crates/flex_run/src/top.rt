@@ -9,8 +9,10 @@ ghost use Rattle.scenario_text.specs.FirstForm.{IsFirstForm};
 ghost use Rattle.report.specs.Script.{HasSerialEpochs};
 ghost use Rattle.report.specs.Legal.{IsLegalRun};
 ghost use Rattle.flex_run.specs.Words.{IsAccepted};
-ghost use Rattle.flex_run.specs.Run.{IsReport, RanLegally, IsPlayable, IsPlayed, IsOrUnwritten, fault_lines};
-ghost use Rattle.flex_run.specs.Stops.{IsReadStop, IsTextStop, IsPlayStop, IsRefusal};
+ghost use Rattle.flex_run.specs.Back.{BringsBack};
+ghost use Rattle.flex_run.specs.Faults.{RackFailed};
+ghost use Rattle.flex_run.specs.Run.{IsReport, RanLegally, IsPlayable, IsPlayed, IsOrUnwritten, IsRunStatus, fault_lines};
+ghost use Rattle.flex_run.specs.Stops.{IsReadStop, IsTextStop, IsPlayStop, IsRefusal, IsTooLong, IsRunResult};
 
 use crate::play::{PlayFault, play_serial};
 use crate::stop::{NO_MEMORY, SINK_FAILED, Stop};
@@ -37,9 +39,9 @@ pub fn flex<So: Source, Si: Sink, R: Rack, G: Gate>(
 ) -> u8
 where
     R::Piece: Steady,
-    // A report is that of a legal run of the scenario that the whole source spells.
+    // A report is that of a legal run of the scenario that the whole source spells, and the slots came back as it says.
     ensures ran { result ≡ 0 → IfSome (So.remaining source.old) (λ input. IsSome (R.back rack.old)
-        → RanLegally input (Si.taken sink.old) (Si.taken sink.new)) }
+        → RanLegally input (Si.taken sink.old) (Si.taken sink.new) (R.back rack.old) (R.back rack.new)) }
 
     // Without one, the sink took the line of the status.
     ensures line { AllByRecursion (λ row. result ≡ row.0 → Appends (Si.taken sink.old) (Si.taken sink.new) row.1) fault_lines }
@@ -51,10 +53,16 @@ where
     ensures text_refused { IfSome (So.remaining source.old) (λ input. IsAccepted words.now → length input ≤ 1048576
         → ¬ (IsPlayable input) → (result ≡ 4) ⊎ IsOrUnwritten 3 result) }
 
+    ensures too_long { IfSome (So.remaining source.old) (λ input. IsAccepted words.now → 1048576 < length input
+        → (result ≡ 4) ⊎ IsOrUnwritten 7 result) }
+    ensures complete { IfSome (So.remaining source.old) (λ input. IsAccepted words.now → length input ≤ 1048576
+        → IsPlayable input → IsRunStatus result) }
+
     // The other statuses come with their causes alone.
     ensures read { result ≡ 4 → HasRisen (So.faults source.old) (So.faults source.new) }
     ensures write { result ≡ 5 → HasRisen (Si.faults sink.old) (Si.faults sink.new) }
     ensures long { result ≡ 7 → IfSome (So.remaining source.old) (λ input. 1048576 < length input) }
+    ensures rack { result ≡ 8 → RackFailed R.Piece.place_of R.Piece.faults (R.faults rack.old) (R.faults rack.new) }
 {
     match report_of(alloc, words, source, rack, gate) {
         Ok(text) => tell(sink, text.as_str(), 0),
@@ -90,14 +98,18 @@ fn report_of<So: Source, R: Rack, G: Gate>(
 where
     R::Piece: Steady,
     ensures report { IfOk result (λ text. IfSome (So.remaining source.old) (λ input. IsSome (R.back rack.old)
-        → IsReport input (string_bytes text))) }
+        → IsReport input (string_bytes text) (R.back rack.old) (R.back rack.new))) }
     ensures words { IsErrOf result Stop.Words → ¬ (IsAccepted words.now) }
     ensures words_refused { ¬ (IsAccepted words.now) → IsErrOf result Stop.Words }
     ensures unbuilt { IsErrOf result Stop.Unbuilt → IfSome (So.remaining source.old) (λ input. ¬ (IsPlayable input)) }
     ensures text_refused { IfSome (So.remaining source.old) (λ input. IsAccepted words.now → length input ≤ 1048576
         → ¬ (IsPlayable input) → IsRefusal result) }
+    ensures too_long { IfSome (So.remaining source.old) (λ input. IsAccepted words.now → 1048576 < length input → IsTooLong result) }
+    ensures complete { IfSome (So.remaining source.old) (λ input. IsAccepted words.now → length input ≤ 1048576
+        → IsPlayable input → IsRunResult result) }
     ensures read { IsErrOf result Stop.Read → HasRisen (So.faults source.old) (So.faults source.new) }
     ensures long { IsErrOf result Stop.Long → IfSome (So.remaining source.old) (λ input. 1048576 < length input) }
+    ensures rack { IsErrOf result Stop.Rack → RackFailed R.Piece.place_of R.Piece.faults (R.faults rack.old) (R.faults rack.new) }
 {
     if !is_run(words) {
         return Err(Stop::Words);
@@ -114,6 +126,7 @@ where
 /// All bytes of a source, up to the limit.
 fn text_of<So: Source>(alloc: Global, source: &mut So) -> Result<List<u8>, Stop>
     ensures whole { IfOk result (λ bytes. IfSome (So.remaining source.old) (λ input. input ≡ bytes)) }
+    ensures within { IfOk result (λ bytes. length bytes ≤ 1048576) }
     ensures stop { IfErr result IsReadStop }
     ensures read { IsErrOf result Stop.Read → HasRisen (So.faults source.old) (So.faults source.new) }
     ensures long { IsErrOf result Stop.Long → IfSome (So.remaining source.old) (λ input. 1048576 < length input) }
@@ -156,7 +169,9 @@ where
     ensures scenario { IfOk result (λ logs. logs.scenario ≡ scenario) }
     ensures legal { IfOk result (λ logs. IsSome (R.back rack.old) → IsLegalRun logs) }
     ensures serial { IfOk result HasSerialEpochs }
+    ensures back { IfOk result (BringsBack (R.back rack.old) (R.back rack.new)) }
     ensures stop { IfErr result IsPlayStop }
+    ensures rack { IsErrOf result Stop.Rack → RackFailed R.Piece.place_of R.Piece.faults (R.faults rack.old) (R.faults rack.new) }
 {
     match play_serial(alloc, scenario, rack, gate) {
         Ok(logs) => Ok(logs),

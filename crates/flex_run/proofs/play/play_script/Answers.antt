@@ -1,14 +1,20 @@
 use Rattle.std.proofs.Common.{◌+◌, ap}
 use Rattle.file_core.specs.Plain.{AllTell}
 use Rattle.flex_run.proofs.Doing.{turn}
+use Rattle.flex_run.proofs.Leaving.{Leaves-more}
 use Rattle.flex_run.proofs.play.play_script.Goals as goal
 
 pub loop-op-preserved : goal.loop-op-preserved
 loop-op-preserved g c =
     let content = g.S.Slot.content in
     let was = c.loop-op.invariant in
-    let done = turn g.S.Slot.place_of (AllTell content c.args.file.now c.args.stock.now) (AllTell content c.loop-op.file c.loop-op.stock)
+    let done = turn g.S.Slot.place_of content (AllTell content c.args.file.now c.args.stock.now) (AllTell content c.loop-op.file c.loop-op.stock)
     c.args.scenario.now c.only_script-script.result.now c.loop-op.op-index c.loop-op.call c.op-item.result
     c.loop-op.file c.loop-op.stock c.play_op.new.file c.play_op.new.stock
-    c.only_script-script.ensures c.loop-op-test.true c.op-item.is was.3 was.0 was.1 was.2 c.in_ok-play_op.ensures.does in
-    (done.0, done.1, λ told. c.in_ok-play_op.ensures.tell (was.2 told), ap (λ n. n + 1) was.3)
+    c.only_script-script.ensures c.loop-op-test.true c.op-item.is was.3 was.0 was.1 was.2.tell c.in_ok-play_op.ensures.does in (
+      done.0,
+      done.1,
+      Leaves-more g.S.Slot.place_of content c.op-item.result c.args.scenario.now.shape _ _ c.args.file.now c.args.stock.now c.loop-op.file c.loop-op.stock
+          c.play_op.new.file c.play_op.new.stock was.2 c.in_ok-play_op.ensures.does c.in_ok-play_op.ensures.tell,
+      ap (λ n. n + 1) was.3,
+    )

@@ -1,4 +1,4 @@
-use Rattle.std.proofs.Common.{◌≡◌, ◌++◌, ◌+◌, ◌-◌, [], ◌∷◌, IsSome, sym, ◌∙◌, ap, subst, rules}
+use Rattle.std.proofs.Common.{◌≡◌, ◌++◌, ◌+◌, ◌-◌, [], ◌∷◌, IsSome, arith, sym, ◌∙◌, ap, subst, rules}
 use Rattle.file_core.specs.Slots.{spot_of, Tell}
 use Rattle.flex_run.specs.StockOrder.{drive_stack, spots_of}
 use Rattle.flex_run.proofs.Stacks.{takes_slot, Tell-push}
@@ -15,4 +15,7 @@ loop-turn-preserved g c =
           let known = c.in_ok-piece.ensures.told (subst (λ o. IsSome o) (sym c.loop-turn.invariant.2) told) in
           subst (λ l. Tell content l) (sym pushed) (Tell-push content c.loop-turn.slots.items c.in_ok-piece.piece (c.loop-turn.invariant.1 told before) known),
       c.in_ok-piece.ensures.same ∙ c.loop-turn.invariant.2,
+      let later = c.in_ok-piece.ensures.never_falls in
+          let before = c.loop-turn.invariant.3 in
+          omega (arith, later, before),
     )

@@ -1,4 +1,4 @@
-use Rattle.std.proofs.Common.{◌++◌, ◌+◌, ℕ, IsSome, sym, ◌∙◌, ap, subst}
+use Rattle.std.proofs.Common.{◌++◌, ◌+◌, ℕ, IsSome, arith, sym, ◌∙◌, ap, subst}
 use Rattle.flex_run.specs.StockOrder.{drive_stack, spots_of}
 use Rattle.flex_run.proofs.Stacks.{takes_drive}
 use Rattle.flex_run.proofs.slots.take_node.Goals as goal
@@ -9,4 +9,7 @@ loop-drive-preserved g c =
       takes_drive _ _ _ c.loop-drive.drive c.args.node c.args.shape.slots c.loop-drive.invariant.0 order,
       λ told before. c.in_ok-take_drive.ensures.tell (subst (λ o. IsSome o) (sym c.loop-drive.invariant.2) told) (c.loop-drive.invariant.1 told before),
       c.in_ok-take_drive.ensures.same ∙ c.loop-drive.invariant.2,
+      let later = c.in_ok-take_drive.ensures.never_falls in
+          let before = c.loop-drive.invariant.3 in
+          omega (arith, later, before),
     )

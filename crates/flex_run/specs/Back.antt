@@ -1,0 +1,59 @@
+-- What a run puts back on the rack.
+use Rattle.std.specs.Prelude.{◌≡◌, ℕ, ◌+◌, Bool, true, false, List, [], ◌∷◌, ◌++◌, length, map, count_by, Option, None, Some, if◌then◌else◌, ⊤}
+use Rattle.std.specs.List.{AllByRecursion}
+use Rattle.flex_io.specs.declared.raw_place.RawPlace.{RawPlace}
+use Rattle.flex_io.specs.declared.rack.Returned.{Returned}
+use Rattle.domains.specs.Drive.{Spot, same_spot}
+use Rattle.scenarios.specs.declared.scenario.FileDecl.{FileDecl}
+use Rattle.scenarios.specs.declared.scenario.Scenario.{Scenario}
+use Rattle.board_log.specs.Board.{up_after}
+use Rattle.file_core.specs.Bytes.{bytes_after}
+use Rattle.file_core.specs.Layout.{layout_after, group_list, places_of}
+use Rattle.file_core.specs.Slots.{spot_of}
+use Rattle.file_core.specs.Stored.{IsStored}
+use Rattle.file_core.specs.declared.entry.FileEntry.{FileEntry}
+use Rattle.file_core.specs.declared.entry.Told.{Told}
+use Rattle.report.specs.Script.{all_told}
+use Rattle.report.specs.declared.logs.Logs.{Logs}
+use Rattle.flex_run.specs.StockOrder.{stock_order}
+
+-- where the slots that came back stand
+abbrev pub spots_back : List Returned → List Spot
+spots_back back = map (λ (r : Returned). spot_of r.place) back
+
+-- what came back from the place
+abbrev pub returned_at : List Returned → Spot → Option (List ℕ)
+returned_at [] s = None
+returned_at (r ∷ rs) s = if same_spot (spot_of r.place) s then Some r.bytes else returned_at rs s
+
+-- these are the units of a file's groups in map order and then its inode's, at the places that its log says, and they hold
+-- the file with the bytes that its log says
+pub record IsFileBack (f : FileDecl) (log : List Told) (unit : ℕ) (units inode : List Returned) : Type 0 where
+  pub units_at : spots_back units ≡ places_of (layout_after f.level log).groups
+  pub inode_at : spots_back inode ≡ places_of (group_list (layout_after f.level log).inode)
+  pub stored : IsStored (returned_at (units ++ inode)) unit (layout_after f.level log) (bytes_after log)
+
+-- these are the units of the files, one file after the other
+abbrev pub AreFilesBack : List FileDecl → List (List FileEntry) → Scenario → List Returned → Type 0
+AreFilesBack [] [] s back = back ≡ []
+AreFilesBack [] (log ∷ rest) s back = ⊥
+AreFilesBack (f ∷ fs) [] s back = ⊥
+AreFilesBack (f ∷ fs) (log ∷ rest) s back =
+    (units inode later : List Returned) × (back ≡ units ++ (inode ++ later))
+    × IsFileBack f (all_told s log) s.shape.unit units inode × AreFilesBack fs rest s later
+
+-- the slots that came back after a run with these logs: the files' units, the retired slots, which stand on drives that are
+-- lost, and the free ones; each place of the cluster once
+pub record IsBack (logs : Logs) (back : List Returned) : Type 0 where
+  pub files : List Returned
+  pub retired : List Returned
+  pub free : List Returned
+  pub all : back ≡ files ++ (retired ++ free)
+  pub of_files : AreFilesBack logs.scenario.files logs.files logs.scenario files
+  pub lost : AllByRecursion (λ (s : Spot). up_after logs.scenario.shape logs.board (length logs.board) s.drive ≡ false) (spots_back retired)
+  pub each : (p : Spot → Bool) → count_by p (spots_back back) ≡ count_by p (stock_order logs.scenario.shape)
+
+-- the slots came back after what came back before, where the rack tells
+abbrev pub BringsBack : Option (List Returned) → Option (List Returned) → Logs → Type 0
+BringsBack None now logs = ⊤
+BringsBack (Some before) now logs = (back : List Returned) × (now ≡ Some (before ++ back)) × IsBack logs back

@@ -1,0 +1,145 @@
+//! Devices that fail, and sources at their limit.
+
+ghost use Rattle.std.specs.Prelude.{Some};
+
+use crate::flex;
+use crate::tests::failing_rack::{Failing, FailingRack};
+use crate::tests::{FIRST, FIRST_REPORT, words};
+use flex_io::{Fault, MemorySink, MemorySource, OpenGate, Sink, SureRack, SureSink, SureSource};
+use lists::List;
+use std::alloc::{AllocError, Global};
+use std::test::Fail;
+
+/// The most bytes of a scenario.
+const LIMIT: usize = 1_048_576;
+
+#[test]
+fn a_device_that_fails_is_told(rt: HostRuntime) -> Result<(), Fail> {
+    let alloc = rt.alloc();
+    for (source_fails, sink_fails, status, taken) in [
+        (1, 9, 4, "fault read\n"),
+        (2, 9, 4, "fault read\n"),
+        (9, 1, 5, ""),
+    ] {
+        let source_fails = List::from_vec(vec![in alloc; source_fails]?);
+        let sink_fails = List::from_vec(vec![in alloc; sink_fails]?);
+        let mut source = MemorySource::new(FIRST.as_bytes().to_vec(alloc)?, source_fails);
+        let mut sink = MemorySink::new(alloc, sink_fails);
+        let mut rack = SureRack::new(alloc);
+        let words = words(alloc, "run")?;
+        let answer = flex(
+            alloc,
+            words.as_slice(),
+            &mut source,
+            &mut sink,
+            &mut rack,
+            &OpenGate,
+        );
+        assert_eq!(rt; answer, status);
+        assert_eq!(rt; sink.as_slice(), taken.as_bytes());
+    }
+    Ok(())
+}
+
+/// Takes one byte at a call.
+#[derive(Drop)]
+struct Slow {
+    inner: MemorySink,
+}
+
+impl Sink for Slow {
+    ghost taken = { λ s. Some s.inner.bytes };
+
+    ghost faults = { λ s. s.inner.calls.failed };
+
+    fn write(&mut self, bytes: &[u8]) -> Result<usize, Fault> {
+        if bytes.is_empty() {
+            return Ok(0);
+        }
+        self.inner.write(&bytes[..1])
+    }
+}
+
+#[test]
+fn a_sink_that_fails_half_way_has_a_front(rt: HostRuntime) -> Result<(), Fail> {
+    let alloc = rt.alloc();
+    for (fails, status, taken) in [(100_000, 0, FIRST_REPORT), (10, 5, "report 1\n")] {
+        let fails = List::from_vec(vec![in alloc; fails]?);
+        let mut source = SureSource::new(FIRST.as_bytes().to_vec(alloc)?);
+        let mut sink = Slow {
+            inner: MemorySink::new(alloc, fails),
+        };
+        let words = words(alloc, "run")?;
+        let answer = flex(
+            alloc,
+            words.as_slice(),
+            &mut source,
+            &mut sink,
+            &mut SureRack::new(alloc),
+            &OpenGate,
+        );
+        assert_eq!(rt; answer, status);
+        assert_eq!(rt; sink.inner.as_slice(), taken.as_bytes());
+    }
+    Ok(())
+}
+
+/// The first scenario with a comment behind it, of so many bytes in all.
+fn commented(alloc: Global, count: usize) -> Result<Vec<u8>, AllocError> {
+    let mut bytes = FIRST.as_bytes().to_vec(alloc)?;
+    bytes.resize(count, b'#')?;
+    Ok(bytes)
+}
+
+#[test]
+fn a_source_at_its_limit_is_played(rt: HostRuntime) -> Result<(), Fail> {
+    let alloc = rt.alloc();
+    for (count, status, taken) in [(LIMIT, 0, FIRST_REPORT), (LIMIT + 1, 7, "fault long\n")] {
+        let mut source = SureSource::new(commented(alloc, count)?);
+        let mut sink = SureSink::new(alloc);
+        let words = words(alloc, "run")?;
+        let answer = flex(
+            alloc,
+            words.as_slice(),
+            &mut source,
+            &mut sink,
+            &mut SureRack::new(alloc),
+            &OpenGate,
+        );
+        assert_eq!(rt; answer, status);
+        assert_eq!(rt; sink.as_slice(), taken.as_bytes());
+    }
+    Ok(())
+}
+
+#[test]
+fn a_rack_that_fails_is_told(rt: HostRuntime) -> Result<(), Fail> {
+    let alloc = rt.alloc();
+    for (failing, status, taken) in [
+        (Failing::Take(1), 8, "fault rack\n"),
+        (Failing::Take(32), 8, "fault rack\n"),
+        (Failing::Take(33), 0, FIRST_REPORT),
+        (Failing::Put(1), 8, "fault rack\n"),
+        (Failing::Put(32), 8, "fault rack\n"),
+        (Failing::Write(0), 8, "fault rack\n"),
+        (Failing::Write(1), 8, "fault rack\n"),
+        (Failing::Write(2), 8, "fault rack\n"),
+        (Failing::Write(3), 0, FIRST_REPORT),
+    ] {
+        let mut source = SureSource::new(FIRST.as_bytes().to_vec(alloc)?);
+        let mut sink = SureSink::new(alloc);
+        let mut rack = FailingRack::new(alloc, failing);
+        let words = words(alloc, "run")?;
+        let answer = flex(
+            alloc,
+            words.as_slice(),
+            &mut source,
+            &mut sink,
+            &mut rack,
+            &OpenGate,
+        );
+        assert_eq!(rt; answer, status);
+        assert_eq!(rt; sink.as_slice(), taken.as_bytes());
+    }
+    Ok(())
+}
