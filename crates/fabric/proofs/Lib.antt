@@ -1,0 +1,5 @@
+mod Counting
+mod Ranks
+mod Finding
+mod Moving
+mod Keeping
