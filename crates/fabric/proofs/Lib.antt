@@ -3,3 +3,4 @@ mod Ranks
 mod Finding
 mod Moving
 mod Keeping
+pub mod Laws

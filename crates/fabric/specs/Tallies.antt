@@ -50,3 +50,13 @@ pub record AreNew (nodes : ℕ) (tallies : List (List Counts)) : Type 0 where
 pub record AddUp (waiting retired : ℕ) (d : Drive) (tallies : List (List Counts)) : Type 0 where
   pub waiting_is : (waiting + sum_by (λ tally. (counts_of d tally).taken) tallies) % 2 ^ 64 ≡ sum_by (λ tally. (counts_of d tally).put) tallies % 2 ^ 64
   pub retired_is : retired % 2 ^ 64 ≡ sum_by (λ tally. (counts_of d tally).retired) tallies % 2 ^ 64
+
+-- how many of a drive's slots a seat put into the yard more than it took, and how many it retired
+pub record Left : Type 0 where
+  pub waiting : ℕ
+  pub retired : ℕ
+
+-- a seat with this tally left so many of the drive's slots, modulo 2^64
+pub record HasLeft (d : Drive) (left : Left) (tally : List Counts) : Type 0 where
+  pub waiting_is : ((counts_of d tally).taken + left.waiting) % 2 ^ 64 ≡ (counts_of d tally).put % 2 ^ 64
+  pub retired_is : (counts_of d tally).retired % 2 ^ 64 ≡ left.retired % 2 ^ 64
