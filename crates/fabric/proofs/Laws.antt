@@ -3,7 +3,8 @@ use Rattle.std.proofs.Common.{◌≡◌, ℕ, zero, suc, ◌+◌, ◌*◌, ◌-�
 use Rattle.std.specs.Prelude.{slice_index, slice_index_or}
 use Rattle.std.specs.List.{All, sum_by}
 use Rattle.std.proofs.lemmas.Bool.{cases_lt, cases_eq}
-use Rattle.std.proofs.lemmas.List.{get_or_past}
+use Rattle.std.proofs.lemmas.Grind.{get_or-set_at}
+use Rattle.std.proofs.lemmas.List.{get_or_past, length-set}
 use Rattle.std.proofs.lemmas.List.Elements.{All-cons}
 use Rattle.std.proofs.lemmas.List.Sums.{count_by-le-length, sum_by-cons}
 use Rattle.domains.specs.Cluster.{Cluster, is_of}
@@ -15,9 +16,11 @@ use Rattle.turn_cell.specs.Histories.{IsFresh}
 use Rattle.turn_cell.specs.Notes.{AreZeros}
 use Rattle.turn_cell.specs.Seats.{Closes, FollowsEach, seat_view}
 use Rattle.fabric.specs.declared.counts.Counts.{Counts}
+use Rattle.fabric.specs.declared.counts.Move.{Move}
 use Rattle.fabric.specs.Slots.{count_on, is_on}
-use Rattle.fabric.specs.Tallies.{AreNew, HasLeft, Left, counts_of, no_counts, numbers_of, rank_of, tally_at}
-use Rattle.fabric.specs.Yards.{IsNewYard, IsYard, YardView}
+use Rattle.fabric.specs.Tallies.{AreNew, HasLeft, Left, count_one, counts_of, no_counts, numbers_of, rank_of, tally_at, with_counts}
+use Rattle.fabric.specs.Yards.{IsNewYard, IsYard, YardView, moved}
+use Rattle.fabric.proofs.Ranks.{rank-within}
 
 -- tallies with the same numbers are one
 pub same_counts : (s t : List Counts) → numbers_of s ≡ numbers_of t → s ≡ t
@@ -58,6 +61,15 @@ zeros_at nodes tallies new number =
 -- a new yard may be put into a cell
 pub IsFresh-new : {S : Type 0} (shape : Cluster) (y : YardView S) → IsNewYard shape y → IsFresh {E = Unit {0}} (λ y. y.turns) (λ y. []) (λ y number. numbers_of (tally_at y.tallies number)) y
 IsFresh-new shape y new = record { turns = new.turns; notes = refl; tallies = zeros_at shape.nodes y.tallies new.tallies }
+
+-- of a new yard no seat left a slot
+pub HasLeft-new : {S : Type 0} (shape : Cluster) (y : YardView S) → IsNewYard shape y → (d : Drive) (number : ℕ) → HasLeft d (record { waiting = 0; retired = 0 }) (tally_at y.tallies number)
+HasLeft-new shape y new d number =
+    let none = no_counts_of (tally_at y.tallies number) (rank_of d) (zeros_at shape.nodes y.tallies new.tallies number) in
+    let put = ap (λ c. c.put) none in
+    let taken = ap (λ c. c.taken) none in
+    let gone = ap (λ c. c.retired) none in
+    record { waiting_is = omega (arith, put, taken); retired_is = omega (arith, gone) }
 
 -- nothing left
 abbrev pub none_left : Left
@@ -166,3 +178,29 @@ module _ {S : Type 0} where
       let few_waiting = is.few_waiting in
       let few_retired = is.few_retired in
       (omega (arith, a, waiting_is, w, few_waiting), omega (arith, b, retired_is, r, few_retired))
+
+  -- what a call has counted for the drive in the tally of the seat whose turn it is
+  pub counts_moved : (place_of : S → RawPlace) (what : Move) (d : Drive) (waiting retired : List S) (y : YardView S) → IsYard place_of (moved what d waiting retired y)
+      → is_of y.shape d ≡ true → counts_of d (tally_at (moved what d waiting retired y).tallies y.seat) ≡ count_one what (counts_of d (tally_at y.tallies y.seat))
+  counts_moved place_of what d waiting retired y is of =
+      let seat = is.seat in
+      let seats = is.seats in
+      let kept = length-set y.tallies y.seat (with_counts d (count_one what) (tally_at y.tallies y.seat)) in
+      let within : y.seat < length y.tallies = omega (arith, seat, seats, kept) in
+      let here = get_or-set_at y.tallies y.seat y.seat (with_counts d (count_one what) (tally_at y.tallies y.seat)) [] refl within in
+      let long = ap length (sym here) ∙ is.drives y.seat [] (omega (arith, seat, seats)) in
+      let same = length-set (tally_at y.tallies y.seat) (rank_of d) (count_one what (counts_of d (tally_at y.tallies y.seat))) in
+      let rank = rank-within y.shape d is.shape of in
+      ap (counts_of d) here
+      ∙ get_or-set_at (tally_at y.tallies y.seat) (rank_of d) (rank_of d) (count_one what (counts_of d (tally_at y.tallies y.seat))) no_counts refl (omega (arith, long, same, rank))
+
+  -- the same of the seat's tally before its turn, which found x
+  pub counts_known : (place_of : S → RawPlace) (what : Move) (d : Drive) (waiting retired : List S) (last x y new : YardView S) (number : ℕ)
+      → numbers_of (tally_at x.tallies number) ≡ numbers_of (tally_at last.tallies number) → y ≡ record x { seat = number }
+      → new ≡ moved what d waiting retired y → IsYard place_of new → is_of x.shape d ≡ true
+      → counts_of d (tally_at new.tallies number) ≡ count_one what (counts_of d (tally_at last.tallies number))
+  counts_known place_of what d waiting retired last x y new number same begins moved_is is of =
+      let all : new ≡ moved what d waiting retired (record x { seat = number }) = moved_is ∙ ap (moved what d waiting retired) begins in
+      ap (λ (y : YardView S). counts_of d (tally_at y.tallies number)) all
+      ∙ (counts_moved place_of what d waiting retired (record x { seat = number }) (subst (IsYard place_of) all is) of
+      ∙ ap (λ tally. count_one what (counts_of d tally)) (same_counts _ _ same))

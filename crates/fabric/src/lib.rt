@@ -3,7 +3,7 @@
 
 mod chronicle;
 mod counts;
-mod oldest;
+mod on_drive;
 mod tallies;
 mod tally;
 mod yard;
@@ -11,3 +11,5 @@ mod yard;
 pub use counts::{Counts, Move};
 pub use yard::{Yard, YardParts};
 
+#[cfg(test)]
+mod tests;

@@ -2,12 +2,12 @@
 
 ghost use Rattle.std.specs.Prelude.{◌≡◌, ◌≤◌, ◌↔◌, [], ◌∷◌, ◌++◌, length, IsErr, IfOk, IfErr, OnOk, OnErr, vec_len};
 ghost use Rattle.slot_pool.specs.Places.{spot_of};
-ghost use Rattle.fabric.specs.Slots.{IsOldest, IsPlaceOf, count_on, drive_of};
+ghost use Rattle.fabric.specs.Slots.{IsOldest, IsPlaceOf, count_on as number_on, drive_of};
 ghost use Rattle.fabric.specs.Yards.{IsNewYard, IsYard, moved};
 ghost use Rattle.fabric.specs.declared.counts.Move.TheVariants.{Put, Take, Retire};
 
 use crate::counts::Move;
-use crate::oldest::oldest_on;
+use crate::on_drive::{count_on, first_on};
 use crate::tallies::Tallies;
 use domains::{DriveId, Shape};
 use flex_io::Slot;
@@ -97,11 +97,11 @@ impl<S: Slot + Send + Drop> Yard<S> {
         ensures place { IfOk result (λ held. IsPlaceOf self.old.shape (spot_of (S.place_of held))) }
         ensures counted { OnOk result (self.new ≡ moved Take drive self.new.waiting self.old.retired self.old) }
         ensures kept { OnErr result (self.new ≡ self.old) }
-        ensures empty { IsErr result ↔ (count_on S.place_of drive self.old.waiting ≡ 0) }
+        ensures empty { IsErr result ↔ (number_on S.place_of drive self.old.waiting ≡ 0) }
         ensures turn { IfErr result (λ empty. empty.turn ≡ self.old.turns) }
         ensures yard { IsYard S.place_of self.new }
     {
-        let Some(at) = oldest_on(&self.waiting, drive) else {
+        let Some(at) = first_on(&self.waiting, drive) else {
             return Err(Empty { turn: self.turns });
         };
         self.tallies.count(self.seat, drive, Move::Take);
@@ -120,6 +120,14 @@ impl<S: Slot + Send + Drop> Yard<S> {
         append(&mut self.retired, held)?;
         self.tallies.count(seat, drive, Move::Retire);
         Ok(())
+    }
+
+    /// How many slots of the drive wait.
+    pub fn count(&self, drive: DriveId) -> u32
+        ensures value { result ≡ number_on S.place_of drive self.now.waiting }
+        ensures yard { IsYard S.place_of self.now }
+    {
+        count_on(&self.waiting, drive)
     }
 
     /// What the yard holds.

@@ -1,7 +1,7 @@
 use Rattle.std.proofs.Common.{rules, ◌≡◌, false, arith}
 use Rattle.fabric.specs.Slots.{is_on}
 use Rattle.fabric.proofs.Finding.{none_longer, none_at_all}
-use Rattle.fabric.proofs.oldest.oldest_on.Goals as goal
+use Rattle.fabric.proofs.on_drive.first_on.Goals as goal
 
 pub loop-at-preserved : goal.loop-at-preserved
 loop-at-preserved g c =

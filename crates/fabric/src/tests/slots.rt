@@ -1,0 +1,109 @@
+//! Slots of drives, and a yard for them.
+
+ghost use Rattle.std.specs.Prelude.{◌≡◌, ◌≤◌, length, IfOk, true};
+ghost use Rattle.domains.specs.Cluster.{is_of};
+ghost use Rattle.slot_pool.specs.Pools.{AreSlotsOf};
+
+use crate::Yard;
+use domains::{DriveId, Shape};
+use flex_io::{Fault, Rack, Slot, SurePiece, SureRack};
+use lists::List;
+use slot_pool::{Held, Pool};
+use std::alloc::Global;
+
+/// Two nodes of two drives with three slots each.
+pub fn small() -> Shape
+    ensures { result ≡ record { nodes = 2; drives = 2; slots = 3; unit = 8 } }
+{
+    Shape::new(2, 2, 3, 8)
+}
+
+/// The slots of a drive, in the order of their numbers.
+fn slots_of<R: Rack>(
+    alloc: Global,
+    rack: &mut R,
+    drive: DriveId,
+    count: u16,
+) -> Result<List<R::Piece>, Fault>
+    ensures { IfOk result (λ slots. (length slots ≡ count) × AreSlotsOf R.Piece.place_of drive slots) }
+{
+    let mut slots = List::new(alloc);
+    for number in 0..count {
+        let slot = rack.take((drive.node(), drive.drive()), number)?;
+        slots.push(slot).map_err(|_| Fault::NoMemory)?;
+    }
+    Ok(slots)
+}
+
+/// A pool of three slots of the drive.
+pub fn pool_of(alloc: Global, drive: DriveId) -> Result<Pool<SurePiece>, Fault>
+    ensures drive { IfOk result (λ pool. pool.drive ≡ drive) }
+    ensures slots { IfOk result (λ pool. pool.slots ≡ 3) }
+{
+    let slots = slots_of(alloc, &mut SureRack::new(alloc), drive, 3)?;
+    match Pool::new(alloc, drive, slots) {
+        Ok(pool) => Ok(pool),
+        Err(_refused) => Err(Fault::NoMemory),
+    }
+}
+
+/// Puts the pool's next slot into the yard, and tells whether it is there.
+pub fn put_next(yard: &mut Yard<SurePiece>, pool: &mut Pool<SurePiece>) -> bool
+    requires of { is_of yard.old.shape pool.old.drive ≡ true }
+    requires slots { pool.old.slots ≤ yard.old.shape.slots }
+    ensures shape { yard.new.shape ≡ yard.old.shape }
+    ensures drive { pool.new.drive ≡ pool.old.drive }
+    ensures slots { pool.new.slots ≡ pool.old.slots }
+{
+    let Ok(held) = pool.take() else {
+        return false;
+    };
+    match yard.put(held) {
+        Ok(()) => true,
+        Err((_error, held)) => {
+            let _slot = held.spend();
+            false
+        }
+    }
+}
+
+/// Retires the pool's next slot, and tells whether it is retired.
+pub fn retire_next(yard: &mut Yard<SurePiece>, pool: &mut Pool<SurePiece>) -> bool
+    requires of { is_of yard.old.shape pool.old.drive ≡ true }
+    requires slots { pool.old.slots ≤ yard.old.shape.slots }
+    ensures shape { yard.new.shape ≡ yard.old.shape }
+    ensures drive { pool.new.drive ≡ pool.old.drive }
+    ensures slots { pool.new.slots ≡ pool.old.slots }
+{
+    let Ok(held) = pool.take() else {
+        return false;
+    };
+    match yard.retire(held) {
+        Ok(()) => true,
+        Err((_error, held)) => {
+            let _slot = held.spend();
+            false
+        }
+    }
+}
+
+/// The node, the drive and the number of a slot, which is spent.
+pub fn place_of(held: Held<SurePiece>) -> (u8, u8, u16) {
+    let at = held.spend().place();
+    (at.node, at.drive, at.slot)
+}
+
+/// The places of up to three slots, from the last. All slots are spent.
+pub fn spend_all(all: List<Held<SurePiece>>) -> [Option<(u8, u8, u16)>; 3] {
+    let mut all = all.into_vec();
+    let places = [
+        all.pop().map(place_of),
+        all.pop().map(place_of),
+        all.pop().map(place_of),
+    ];
+    while let Some(held) = all.pop() {
+        let _slot = held.spend();
+    }
+    all.destroy_empty();
+    places
+}
