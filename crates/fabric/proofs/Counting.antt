@@ -1,11 +1,11 @@
 -- How many slots are on a drive.
-use Rattle.std.proofs.Common.{◌≡◌, ℕ, zero, suc, ◌+◌, ◌<◌, Bool, true, false, List, [], ◌∷◌, ◌++◌, length, take, drop, refl, sym, ap, ◌∙◌, subst, arith}
-use Rattle.std.specs.Prelude.{cond, remove, slice_index_or}
+use Rattle.std.proofs.Common.{◌≡◌, ℕ, suc, ◌+◌, Bool, false, List, [], ◌∷◌, ◌++◌, refl, ap, arith}
+use Rattle.std.specs.Prelude.{cond}
 use Rattle.std.specs.List.{All}
 use Rattle.std.proofs.lemmas.List.Sums.{sum_by-cons, sum_by-append}
 use Rattle.domains.specs.Drive.{Drive}
 use Rattle.flex_io.specs.declared.raw_place.RawPlace.{RawPlace}
-use Rattle.fabric.specs.Slots.{is_on, count_on, drive_of}
+use Rattle.fabric.specs.Slots.{is_on, count_on}
 
 -- 1 where it is so
 abbrev pub one_if : Bool → ℕ

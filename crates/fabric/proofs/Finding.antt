@@ -1,6 +1,6 @@
 -- The slot of a drive that comes first.
-use Rattle.std.proofs.Common.{◌≡◌, ℕ, zero, suc, ◌+◌, ◌<◌, ◌≤◌, Bool, true, false, List, [], ◌∷◌, ◌++◌, length, take, drop, refl, sym, ap, ◌∙◌, subst, arith}
-use Rattle.std.specs.Prelude.{remove, slice_index_or}
+use Rattle.std.proofs.Common.{◌≡◌, ℕ, zero, suc, ◌+◌, ◌<◌, ◌≤◌, true, false, List, [], ◌∷◌, ◌++◌, length, take, drop, refl, sym, ap, ◌∙◌, subst, arith}
+use Rattle.std.specs.Prelude.{slice_index_or}
 use Rattle.std.specs.List.{All}
 use Rattle.std.proofs.lemmas.Grind.{take_at_read}
 use Rattle.std.proofs.lemmas.List.{take_all}
@@ -30,7 +30,7 @@ module _ {S : Type 0} (place_of : S → RawPlace) (d : Drive) where
       → All (λ slot. is_on place_of d slot ≡ false) (take at slots) → All (λ slot. is_on place_of d slot ≡ false) (take (at + 1) slots)
   none_longer slots at slot within here other none =
       subst (All (λ slot. is_on place_of d slot ≡ false)) (sym ((take_at_read slots at slot within).1))
-        (All-push (λ slot. is_on place_of d slot ≡ false) (take at slots) (slice_index_or slots at slot) none (ap (is_on place_of d) here ∙ other))
+      (All-push (λ slot. is_on place_of d slot ≡ false) (take at slots) (slice_index_or slots at slot) none (ap (is_on place_of d) here ∙ other))
 
   -- none up to the end
   pub none_at_all : (slots : List S) (at : ℕ) → length slots ≤ at → All (λ slot. is_on place_of d slot ≡ false) (take at slots) → count_on place_of d slots ≡ 0

@@ -1,5 +1,5 @@
 -- What holds of every yard, kept by each of its calls.
-use Rattle.std.proofs.Common.{◌≡◌, ℕ, zero, suc, ◌+◌, ◌*◌, ◌%◌, ◌^◌, ◌<◌, ◌≤◌, Bool, true, false, List, [], ◌∷◌, ◌++◌, length, replicate, refl, sym, ap, ◌∙◌, subst, arith}
+use Rattle.std.proofs.Common.{◌≡◌, ℕ, zero, suc, ◌+◌, ◌*◌, ◌<◌, ◌≤◌, true, List, [], ◌∷◌, ◌++◌, length, replicate, refl, sym, ap, ◌∙◌, subst, arith}
 use Rattle.std.specs.Prelude.{slice_index_or}
 use Rattle.std.specs.List.{All, sum_by}
 use Rattle.std.proofs.lemmas.List.{length-set, length-append, length-replicate}
@@ -109,8 +109,8 @@ module _ {S : Type 0} (place_of : S → RawPlace) where
         few_retired = is.few_retired;
         add_up = λ d of.
             subst (λ (n : ℕ). AddUp n (count_on place_of d y.retired) d (with_tally y.seat (with_counts (drive_of place_of slot) (count_one Put)) y.tallies))
-              (sym (count_on-push place_of d y.waiting slot))
-              (AddUp-put y.shape is.shape (drive_of place_of slot) d place.drive of y.tallies y.seat kept.within is.drives _ _ (is.add_up d of));
+            (sym (count_on-push place_of d y.waiting slot))
+            (AddUp-put y.shape is.shape (drive_of place_of slot) d place.drive of y.tallies y.seat kept.within is.drives _ _ (is.add_up d of));
       }
 
   pub IsYard-retire : (y : YardView S) (slot : S) → IsYard place_of y → IsPlaceOf y.shape (spot_of (place_of slot)) → length (y.retired ++ slot ∷ []) ≤ 819200
@@ -128,8 +128,8 @@ module _ {S : Type 0} (place_of : S → RawPlace) where
         few_retired = few;
         add_up = λ d of.
             subst (λ (n : ℕ). AddUp (count_on place_of d y.waiting) n d (with_tally y.seat (with_counts (drive_of place_of slot) (count_one Retire)) y.tallies))
-              (sym (count_on-push place_of d y.retired slot))
-              (AddUp-retire y.shape is.shape (drive_of place_of slot) d place.drive of y.tallies y.seat kept.within is.drives _ _ (is.add_up d of));
+            (sym (count_on-push place_of d y.retired slot))
+            (AddUp-retire y.shape is.shape (drive_of place_of slot) d place.drive of y.tallies y.seat kept.within is.drives _ _ (is.add_up d of));
       }
 
   -- the slot that is taken is one of the cluster's
@@ -162,5 +162,5 @@ module _ {S : Type 0} (place_of : S → RawPlace) where
             let same = ap (count_on place_of e) oldest.old_is ∙ one ∙ ap (λ (x : Drive). count_on place_of e (oldest.before ++ oldest.after) + one_if (same_drive x e)) oldest.on in
             let add = subst (λ (n : ℕ). AddUp n (count_on place_of e y.retired) e y.tallies) same (is.add_up e of) in
             subst (λ (l : List S). AddUp (count_on place_of e l) (count_on place_of e y.retired) e (with_tally y.seat (with_counts d (count_one Take)) y.tallies)) (sym oldest.new_is)
-              (AddUp-take y.shape is.shape d e of_e of y.tallies y.seat kept.within is.drives _ _ add);
+            (AddUp-take y.shape is.shape d e of_e of y.tallies y.seat kept.within is.drives _ _ add);
       }

@@ -1,7 +1,7 @@
 -- Laws for the layer above.
 use Rattle.std.proofs.Common.{◌≡◌, ℕ, zero, suc, ◌+◌, ◌*◌, ◌-◌, ◌%◌, ◌^◌, ◌<◌, ◌≤◌, true, List, [], ◌∷◌, length, drop, replicate, refl, sym, ap, ◌∙◌, subst, inl, inr, arith}
 use Rattle.std.specs.Prelude.{slice_index, slice_index_or}
-use Rattle.std.specs.List.{All, sum_by}
+use Rattle.std.specs.List.{sum_by}
 use Rattle.std.proofs.lemmas.Bool.{cases_lt, cases_eq}
 use Rattle.std.proofs.lemmas.Grind.{get_or-set_at}
 use Rattle.std.proofs.lemmas.List.{get_or_past, length-set}
@@ -49,7 +49,7 @@ zeros_new zero = AreZeros-none
 zeros_new (suc n) =
     let rest = numbers_of (replicate n no_counts) in
     All-cons (λ number. number ≡ 0) 0 (0 ∷ 0 ∷ rest) refl
-      (All-cons (λ number. number ≡ 0) 0 (0 ∷ rest) refl (All-cons (λ number. number ≡ 0) 0 rest refl (zeros_new n)))
+    (All-cons (λ number. number ≡ 0) 0 (0 ∷ rest) refl (All-cons (λ number. number ≡ 0) 0 rest refl (zeros_new n)))
 
 zeros_at : (nodes : ℕ) (tallies : List (List Counts)) → AreNew nodes tallies → (number : ℕ) → AreZeros (numbers_of (tally_at tallies number))
 zeros_at nodes tallies new number =
@@ -140,7 +140,7 @@ module _ {S : Type 0} where
         | inr other ↦ (
             let later : suc (seat - suc number) ≡ seat - number = omega (arith, other, from) in
             subst (λ (k : ℕ). HasLeft d (left_at (l ∷ ls) k) (tally_at y.tallies seat)) later
-              (each_left y d (suc number) xs ls follows.1 left.1 seat (omega (arith, other, from)) (omega (arith, below)))
+            (each_left y d (suc number) xs ls follows.1 left.1 seat (omega (arith, other, from)) (omega (arith, below)))
             )
       ]
 
@@ -153,20 +153,20 @@ module _ {S : Type 0} where
       let seats_are = is.seats in
       let many = as_many d 0 seats lefts left in
       let each : (seat : ℕ) → HasLeft d (left_at lefts seat) (tally_at y.tallies seat) =
-          λ seat. elim (cases_lt seat (length seats)) [
-            | inl below ↦ (
-                let same : seat - 0 ≡ seat = omega arith in
-                subst (λ (k : ℕ). HasLeft d (left_at lefts k) (tally_at y.tallies seat)) same (each_left y d 0 seats lefts closes.follows left seat (omega arith) (omega (arith, below)))
-                )
-            | inr past ↦ (
-                let none = no_counts_of (tally_at y.tallies seat) (rank_of d) (closes.zeros seat past) in
-                let put = ap (λ c. c.put) none in
-                let taken = ap (λ c. c.taken) none in
-                let gone = ap (λ c. c.retired) none in
-                subst (λ (l : Left). HasLeft d l (tally_at y.tallies seat)) (sym (get_or_past lefts seat none_left (omega (arith, past, many))))
-                  (record { waiting_is = omega (arith, put, taken); retired_is = omega (arith, gone) })
-                )
-          ] in
+      λ seat. elim (cases_lt seat (length seats)) [
+        | inl below ↦ (
+            let same : seat - 0 ≡ seat = omega arith in
+            subst (λ (k : ℕ). HasLeft d (left_at lefts k) (tally_at y.tallies seat)) same (each_left y d 0 seats lefts closes.follows left seat (omega arith) (omega (arith, below)))
+            )
+        | inr past ↦ (
+            let none = no_counts_of (tally_at y.tallies seat) (rank_of d) (closes.zeros seat past) in
+            let put = ap (λ c. c.put) none in
+            let taken = ap (λ c. c.taken) none in
+            let gone = ap (λ c. c.retired) none in
+            subst (λ (l : Left). HasLeft d l (tally_at y.tallies seat)) (sym (get_or_past lefts seat none_left (omega (arith, past, many))))
+            (record { waiting_is = omega (arith, put, taken); retired_is = omega (arith, gone) })
+            )
+      ] in
       let all = sums d y.tallies lefts (omega (arith, few, many, seats_are)) each in
       let a = all.0 in
       let b = all.1 in

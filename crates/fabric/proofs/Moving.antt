@@ -1,6 +1,5 @@
 -- How the counts add up once a slot was moved.
-use Rattle.std.proofs.Common.{◌≡◌, ◌≢◌, ℕ, zero, suc, ◌+◌, ◌*◌, ◌-◌, ◌%◌, ◌^◌, ◌<◌, ◌≤◌, Bool, true, false, cond, List, [], ◌∷◌, ◌++◌, length, refl, sym, ap, ◌∙◌, subst, inl, inr, arith}
-use Rattle.std.specs.Prelude.{slice_index_or, slice_set}
+use Rattle.std.proofs.Common.{◌≡◌, ℕ, ◌+◌, ◌*◌, ◌<◌, Bool, true, false, cond, List, [], length, refl, sym, ap, ◌∙◌, subst, inl, inr, arith}
 use Rattle.std.specs.List.{All, sum_by}
 use Rattle.std.proofs.lemmas.Bool.{cases_Bool}
 use Rattle.std.proofs.lemmas.Grind.{get_or-set_at}
@@ -24,13 +23,13 @@ module _ (shape : Cluster) (is : IsCluster shape) (what : Move) (e d : Drive) (o
       elim (cases_Bool (same_drive e d)) [
         | inl same ↦ (
             let here : counts_of e (with_counts e (count_one what) tally) ≡ count_one what (counts_of e tally) =
-                get_or-set_at tally (rank_of e) (rank_of e) (count_one what (counts_of e tally)) no_counts refl within in
+            get_or-set_at tally (rank_of e) (rank_of e) (count_one what (counts_of e tally)) no_counts refl within in
             subst (λ (x : Drive). counts_of x (with_counts e (count_one what) tally) ≡ count_one what (counts_of x tally)) (same_drive-is e d same) here
             ∙ sym (ap (λ b. cond b (count_one what (counts_of d tally)) (counts_of d tally)) same)
             )
         | inr other ↦ (
             get_or-set_other tally (rank_of e) (rank_of d) (count_one what (counts_of e tally)) no_counts
-              (rank-apart e d (IsDrive-of shape e is of_e) (IsDrive-of shape d is of_d) other)
+            (rank-apart e d (IsDrive-of shape e is of_e) (IsDrive-of shape d is of_d) other)
             ∙ sym (ap (λ b. cond b (count_one what (counts_of d tally)) (counts_of d tally)) other)
             )
       ]
@@ -58,8 +57,8 @@ module _ (shape : Cluster) (is : IsCluster shape) (e d : Drive) (of_e : is_of sh
       ≡ sum_of f tallies + f (cond b (count_one what (counts_of d (tally_at tallies seat))) (counts_of d (tally_at tallies seat)))
   step what f b test =
       subst (λ (b : Bool). sum_of f (moved_tallies what) + f (counts_of d (tally_at tallies seat))
-        ≡ sum_of f tallies + f (cond b (count_one what (counts_of d (tally_at tallies seat))) (counts_of d (tally_at tallies seat))))
-        test (sum-moved shape is what e d of_e of_d f tallies seat within long)
+      ≡ sum_of f tallies + f (cond b (count_one what (counts_of d (tally_at tallies seat))) (counts_of d (tally_at tallies seat))))
+      test (sum-moved shape is what e d of_e of_d f tallies seat within long)
 
   pub AddUp-put : (waiting retired : ℕ) → AddUp waiting retired d tallies → AddUp (waiting + one_if (same_drive e d)) retired d (moved_tallies Put)
   AddUp-put waiting retired add =

@@ -1,5 +1,5 @@
 -- The places of drives in a tally.
-use Rattle.std.proofs.Common.{◌≡◌, ◌≢◌, ℕ, ◌+◌, ◌*◌, ◌-◌, ◌<◌, ◌≤◌, Bool, true, false, refl, sym, ap, ◌∙◌, arith}
+use Rattle.std.proofs.Common.{◌≡◌, ◌≢◌, ◌*◌, ◌<◌, ◌≤◌, true, false, refl, sym, ◌∙◌, arith}
 use Rattle.std.proofs.lemmas.Bool.{and_parts, and_from, eqb-true, eq-eqb, leb-true, true≢false}
 use Rattle.domains.specs.Cluster.{Cluster, IsCluster, is_of}
 use Rattle.domains.specs.Drive.{Drive, IsDrive, same_drive}

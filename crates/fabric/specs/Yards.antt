@@ -35,7 +35,7 @@ module _ {S : Type 0} where
     pub turns : y.turns ≡ 0
     pub seat : y.seat ≡ 0
 
--- what holds of every yard
+-- what holds of every yard. Neither list is longer than the largest cluster has slots: 200 drives of 4,096.
 pub record IsYard {S : Type 0} (place_of : S → RawPlace) (y : YardView S) : Type 0 where
   pub shape : IsCluster y.shape
   pub seat : y.seat < 32

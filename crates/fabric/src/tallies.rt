@@ -1,6 +1,6 @@
 //! The tallies of all seats of a yard.
 
-ghost use Rattle.std.specs.Prelude.{◌≡◌, ◌<◌, ◌≤◌, length, vec_capacity, IfOk};
+ghost use Rattle.std.specs.Prelude.{◌≡◌, ◌<◌, length, IfOk};
 ghost use Rattle.fabric.specs.Tallies.{AreNew, count_one, rank_of, tally_at, with_counts, with_tally};
 
 use crate::counts::Move;

@@ -1,7 +1,6 @@
 //! The tally of one seat.
 
 ghost use Rattle.std.specs.Prelude.{◌≡◌, ◌<◌, ◌*◌, length, replicate, IfOk};
-ghost use Rattle.domains.specs.Drive.{IsDrive};
 ghost use Rattle.fabric.specs.Tallies.{count_one, no_counts, rank_of, with_counts};
 
 use crate::counts::{Counts, Move};

@@ -31,7 +31,10 @@ fn the_slot_of_a_drive_that_waits_longest_is_taken(rt: HostRuntime) -> Result<()
     assert_eq!(rt; put, [true; 4]);
     assert_eq!(rt; take_place(&mut yard, first), Ok((1, 1, 0)));
     let YardParts { yard, retired } = yard.close();
-    assert_eq!(rt; spend_all(yard), [Some((1, 1, 1)), Some((2, 2, 1)), Some((2, 2, 0))]);
+    assert_eq!(rt;
+        spend_all(yard),
+        [Some((1, 1, 1)), Some((2, 2, 1)), Some((2, 2, 0))]
+    );
     assert_eq!(rt; spend_all(retired), [None; 3]);
     Ok(())
 }
@@ -68,7 +71,10 @@ fn retired_slots_stay_in_their_order(rt: HostRuntime) -> Result<(), Fail> {
     assert_eq!(rt; take_place(&mut yard, first), Err(Empty { turn: 0 }));
     let YardParts { yard, retired } = yard.close();
     assert_eq!(rt; spend_all(yard), [Some((2, 1, 1)), None, None]);
-    assert_eq!(rt; spend_all(retired), [Some((1, 2, 1)), Some((2, 1, 0)), Some((1, 2, 0))]);
+    assert_eq!(rt;
+        spend_all(retired),
+        [Some((1, 2, 1)), Some((2, 1, 0)), Some((1, 2, 0))]
+    );
     Ok(())
 }
 
@@ -85,7 +91,10 @@ fn an_empty_yard_tells_its_turn(rt: HostRuntime) -> Result<(), Fail> {
     let first = take_in_turn(&rt, &cell, &mut zero, drive).map(place_of);
     let second = take_in_turn(&rt, &cell, &mut zero, drive).map(place_of);
     abandon(cell, seats, zero, one);
-    assert_eq!(rt; [first, second], [Err(Empty { turn: 0 }), Err(Empty { turn: 1 })]);
+    assert_eq!(rt;
+        [first, second],
+        [Err(Empty { turn: 0 }), Err(Empty { turn: 1 })]
+    );
     Ok(())
 }
 

@@ -1,6 +1,6 @@
 //! The slots that wait for their drives, and those that are retired.
 
-ghost use Rattle.std.specs.Prelude.{◌≡◌, ◌≤◌, ◌↔◌, [], ◌∷◌, ◌++◌, length, IsErr, IfOk, IfErr, OnOk, OnErr, vec_len};
+ghost use Rattle.std.specs.Prelude.{◌≡◌, ◌≤◌, ◌↔◌, [], ◌∷◌, ◌++◌, length, IsErr, IfOk, IfErr, OnOk, OnErr};
 ghost use Rattle.slot_pool.specs.Places.{spot_of};
 ghost use Rattle.fabric.specs.Slots.{IsOldest, IsPlaceOf, count_on as number_on, drive_of};
 ghost use Rattle.fabric.specs.Yards.{IsNewYard, IsYard, moved};

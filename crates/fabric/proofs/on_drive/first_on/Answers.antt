@@ -1,4 +1,4 @@
-use Rattle.std.proofs.Common.{rules, ◌≡◌, false, arith}
+use Rattle.std.proofs.Common.{rules, ◌≡◌, false}
 use Rattle.fabric.specs.Slots.{is_on}
 use Rattle.fabric.proofs.Finding.{none_longer, none_at_all}
 use Rattle.fabric.proofs.on_drive.first_on.Goals as goal

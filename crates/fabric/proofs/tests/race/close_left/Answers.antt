@@ -1,11 +1,8 @@
-use Rattle.std.proofs.Common.{◌≡◌, ◌%◌, ◌^◌, true, List, [], ◌∷◌, ◌++◌, ap, ◌∙◌, subst, arith}
-use Rattle.std.specs.List.{sum_by}
+use Rattle.std.proofs.Common.{◌≡◌, true, [], ◌∷◌, ◌++◌, ap, ◌∙◌, subst, arith}
 use Rattle.domains.specs.Cluster.{is_of}
-use Rattle.turn_cell.specs.declared.seat.Seat.{Seat}
 use Rattle.turn_cell.specs.Seats.{Closes}
 use Rattle.fabric.specs.Slots.{count_on}
 use Rattle.fabric.specs.Tallies.{Left, numbers_of, tally_at}
-use Rattle.fabric.specs.Yards.{YardView}
 use Rattle.fabric.proofs.Laws.{left-closed}
 use Rattle.fabric.proofs.tests.race.close_left.Given.{Over}
 use Rattle.fabric.proofs.tests.race.close_left.Goals as goal
@@ -24,7 +21,7 @@ module _ (g : Over) (c : goal.After-count-waiting g) where
   both =
       let of : is_of c.close-yard.result.shape c.args.drive ≡ true = ap (λ shape. is_of shape c.args.drive) closes.follows.0.fixed ∙ c.requires.of in
       left-closed g.S.Slot.place_of c.close-yard.result (c.args.zero ∷ c.args.one ∷ []) c.args.drive (one_waiting ∷ one_waiting ∷ []) c.count-waiting.ensures.yard closes of (omega arith)
-        (c.requires.zero, (c.requires.one, tt))
+      (c.requires.zero, (c.requires.one, tt))
 
 pub returns-clause-waiting : goal.returns-clause-waiting
 returns-clause-waiting g c = (both g c).0

@@ -17,8 +17,8 @@ returns-clause-ok g c =
     let number = (seat_view c.args.seat.now).number in
     let of : is_of x.shape d ≡ true = ap (λ shape. is_of shape d) entered.follows.fixed ∙ c.requires.place.drive in
     let done : OnOk c.put-put.result (counts_of d (tally_at (seat_view c.leave.new.self.1.0).last.tallies number) ≡ count_one Put (counts_of d (tally_at last.tallies number))) =
-        on_ok_weaker c.put-put.result (λ moved_is.
-          ap (λ v. counts_of d (tally_at v.last.tallies number)) c.leave.ensures.left
-          ∙ counts_known g.S.Slot.place_of Put d _ _ last x _ _ number entered.follows.tally (c.state.ensures.value ∙ entered.begins) moved_is c.put-put.ensures.yard of
-        ) c.put-put.ensures.ok in
+    on_ok_weaker c.put-put.result (λ moved_is.
+    ap (λ v. counts_of d (tally_at v.last.tallies number)) c.leave.ensures.left
+    ∙ counts_known g.S.Slot.place_of Put d _ _ last x _ _ number entered.follows.tally (c.state.ensures.value ∙ entered.begins) moved_is c.put-put.ensures.yard of
+    ) c.put-put.ensures.ok in
     search rules

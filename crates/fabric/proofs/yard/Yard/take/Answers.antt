@@ -1,6 +1,5 @@
-use Rattle.std.proofs.Common.{rules, ◌≡◌, true, ap, arith}
-use Rattle.domains.specs.Cluster.{is_of}
-use Rattle.fabric.specs.Slots.{IsOldest, IsPlaceOf, drive_of}
+use Rattle.std.proofs.Common.{rules}
+use Rattle.fabric.specs.Slots.{IsOldest}
 use Rattle.fabric.proofs.Finding.{IsOldest-remove, first_of, some_on}
 use Rattle.fabric.proofs.Keeping.{IsPlaceOf-taken, IsYard-take, counted_within}
 use Rattle.fabric.proofs.yard.Yard.take.Given.{Over}
