@@ -5,7 +5,7 @@ mod failing_rack;
 
 use crate::flex;
 use flex_io::{OpenGate, SureRack, SureSink, SureSource};
-use std::alloc::Global;
+use std::alloc::{AllocError, Global};
 use std::test::Fail;
 
 /// Two nodes of one drive, and a mirrored file that is created, written and read.
@@ -70,6 +70,46 @@ fn sources_run_as_documented(rt: HostRuntime) -> Result<(), Fail> {
         );
         assert_eq!(rt; answer, status);
         assert_eq!(rt; sink.as_slice(), taken.as_bytes());
+    }
+    Ok(())
+}
+
+/// The first scenario with something before it and behind it.
+fn framed(alloc: Global, before: &[u8], behind: &[u8]) -> Result<Vec<u8>, AllocError> {
+    let mut bytes = before.to_vec(alloc)?;
+    bytes.extend_from_slice(FIRST.as_bytes())?;
+    bytes.extend_from_slice(behind)?;
+    Ok(bytes)
+}
+
+#[test]
+fn what_is_not_of_the_form_is_unbuilt(rt: HostRuntime) -> Result<(), Fail> {
+    let alloc = rt.alloc();
+    let nothing = b"".as_slice();
+    for (before, behind) in [
+        (nothing, b"\xff".as_slice()),
+        (nothing, b"[[actor]\n".as_slice()),
+        (b"colour = 1\n".as_slice(), nothing),
+        (b"workers = 2\n".as_slice(), nothing),
+        (
+            nothing,
+            b"[[file]]\nname = \"b\"\nlevel = \"2x\"\n".as_slice(),
+        ),
+        (nothing, b"[[actor]]\nops = [\"read a 0 5\"]\n".as_slice()),
+    ] {
+        let mut source = SureSource::new(framed(alloc, before, behind)?);
+        let mut sink = SureSink::new(alloc);
+        let words = words(alloc, "run")?;
+        let answer = flex(
+            alloc,
+            words.as_slice(),
+            &mut source,
+            &mut sink,
+            &mut SureRack::new(alloc),
+            &OpenGate,
+        );
+        assert_eq!(rt; answer, 3);
+        assert_eq!(rt; sink.as_slice(), b"fault scenario unbuilt 0 0\n".as_slice());
     }
     Ok(())
 }

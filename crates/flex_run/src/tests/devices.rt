@@ -112,32 +112,49 @@ fn a_source_at_its_limit_is_played(rt: HostRuntime) -> Result<(), Fail> {
     Ok(())
 }
 
+/// The status and what the sink took of the first scenario over a rack that fails so.
+fn over(alloc: Global, failing: Failing) -> Result<(u8, SureSink), Fail> {
+    let mut source = SureSource::new(FIRST.as_bytes().to_vec(alloc)?);
+    let mut sink = SureSink::new(alloc);
+    let mut rack = FailingRack::new(alloc, failing);
+    let words = words(alloc, "run")?;
+    let status = flex(
+        alloc,
+        words.as_slice(),
+        &mut source,
+        &mut sink,
+        &mut rack,
+        &OpenGate,
+    );
+    Ok((status, sink))
+}
+
 #[test]
-fn a_rack_that_fails_is_told(rt: HostRuntime) -> Result<(), Fail> {
+fn a_rack_that_fails_at_any_call_is_told(rt: HostRuntime) -> Result<(), Fail> {
     let alloc = rt.alloc();
-    for (failing, status, taken) in [
-        (Failing::Take(1), 8, "fault rack\n"),
-        (Failing::Take(32), 8, "fault rack\n"),
-        (Failing::Take(33), 0, FIRST_REPORT),
-        (Failing::Put(1), 8, "fault rack\n"),
-        (Failing::Put(32), 8, "fault rack\n"),
-        (Failing::Write(0), 8, "fault rack\n"),
-        (Failing::Write(1), 8, "fault rack\n"),
-        (Failing::Write(2), 8, "fault rack\n"),
-        (Failing::Write(3), 0, FIRST_REPORT),
+    for number in 1..33 {
+        for failing in [Failing::Take(number), Failing::Put(number)] {
+            let (status, sink) = over(alloc, failing)?;
+            assert_eq!(rt; status, 8);
+            assert_eq!(rt; sink.as_slice(), b"fault rack\n".as_slice());
+        }
+    }
+    let (status, sink) = over(alloc, Failing::Take(33))?;
+    assert_eq!(rt; status, 0);
+    assert_eq!(rt; sink.as_slice(), FIRST_REPORT.as_bytes());
+    Ok(())
+}
+
+#[test]
+fn a_slot_that_fails_is_told(rt: HostRuntime) -> Result<(), Fail> {
+    let alloc = rt.alloc();
+    for (slot, status, taken) in [
+        (0, 8, "fault rack\n"),
+        (1, 8, "fault rack\n"),
+        (2, 8, "fault rack\n"),
+        (3, 0, FIRST_REPORT),
     ] {
-        let mut source = SureSource::new(FIRST.as_bytes().to_vec(alloc)?);
-        let mut sink = SureSink::new(alloc);
-        let mut rack = FailingRack::new(alloc, failing);
-        let words = words(alloc, "run")?;
-        let answer = flex(
-            alloc,
-            words.as_slice(),
-            &mut source,
-            &mut sink,
-            &mut rack,
-            &OpenGate,
-        );
+        let (answer, sink) = over(alloc, Failing::Write(slot))?;
         assert_eq!(rt; answer, status);
         assert_eq!(rt; sink.as_slice(), taken.as_bytes());
     }
