@@ -10,6 +10,7 @@ use Rattle.board_log.specs.Board.{up_after}
 use Rattle.board_log.specs.declared.entry.BoardEntry.{BoardEntry}
 use Rattle.file_core.specs.Slots.{spot_of, is_place_of, one_if, count_at, AreOf, Tell}
 use Rattle.file_core.specs.Plain.{Shelves}
+use Rattle.file_core.specs.FreeOrder.{is_under, StandInOrder, HasLowerNumber}
 use Rattle.file_core.specs.Mirrors.{IsMirror, SamePlaces, TellStill, AreCopies}
 use Rattle.file_core.specs.StockWords.{Draws}
 use Rattle.file_core.specs.Drives.{IsUpElsewhere}
@@ -49,6 +50,16 @@ module _ {S : Type 0} (place_of : S → RawPlace) (content : S → Option (List 
   pub left_told : (before after : List S) (x : S) → Leaves before after x → Tell content before → IsSome (content x) × Tell content after
   left_told before after x moved all = some_told (content x) _ _ all (moved (λ y. is_none (content y)))
 
+  -- a slot that has a lower number than some has one than those that are left of them
+  lower_left : (before after : List S) (y x : S) → Leaves before after y → HasLowerNumber place_of before x → HasLowerNumber place_of after x
+  lower_left before after y x moved lower =
+      let m = moved (λ z. is_under (spot_of (place_of z)) (spot_of (place_of x))) in
+      omega (arith, m, lower)
+
+  -- and so has another slot at its place
+  lower_same : (slots : List S) (x y : S) → place_of y ≡ place_of x → HasLowerNumber place_of slots x → HasLowerNumber place_of slots y
+  lower_same slots x y same = subst (λ (r : RawPlace). count_at place_of (λ s. is_under s (spot_of r)) slots ≡ 0) (sym same)
+
   -- the two slots were drawn as a mirror
   pub draws : (shape : Cluster) (board : List BoardEntry) (up : DriveSet) (free between after retired : List S) (room more spare : ℕ)
       (one two : Drive) (x y : S) (pair : Pair S) (bytes : List ℕ)
@@ -58,9 +69,11 @@ module _ {S : Type 0} (place_of : S → RawPlace) (content : S → Option (List 
       → Leaves free between x → Leaves between after y
       → SamePlaces place_of (record { first = x; second = y }) pair → TellStill content (record { first = x; second = y }) pair
       → AreCopies content pair bytes → more ≡ room + 2
+      → (StandInOrder place_of free → StandInOrder place_of between) → (StandInOrder place_of between → StandInOrder place_of after)
+      → (StandInOrder place_of free → HasLowerNumber place_of between x) → (StandInOrder place_of between → HasLowerNumber place_of after y)
       → Draws place_of content (record { shape = shape; board = board; free = free; retired = retired; room = room; spare = spare })
       (record { shape = shape; board = board; free = after; retired = retired; room = more; spare = spare }) bytes pair
-  draws shape board up free between after retired room more spare one two x y pair bytes up_set all up_one up_two on_one on_two moved moved_too same still copies rooms =
+  draws shape board up free between after retired room more spare one two x y pair bytes up_set all up_one up_two on_one on_two moved moved_too same still copies rooms order order_too lower lower_too =
       let place_x : spot_of (place_of pair.first) ≡ spot_of (place_of x) = ap spot_of same.first in
       let place_y : spot_of (place_of pair.second) ≡ spot_of (place_of y) = ap spot_of same.second in
       let is_one : one ≡ (spot_of (place_of x)).drive = same_drive-eq one _ on_one in
@@ -92,6 +105,9 @@ module _ {S : Type 0} (place_of : S → RawPlace) (content : S → Option (List 
             let told_y = left_told between after y moved_too told_x.1 in
             (told_y.1, still.first told_x.0, still.second told_y.0);
         room = rooms;
+        ordered = λ h. order_too (order h);
+        first_lower = λ h. lower_left between after y pair.first moved_too (lower_same between x pair.first same.first (lower h));
+        second_lower = λ h. lower_same after y pair.second same.second (lower_too (order h));
       }
 
   -- a drive of another node has the free slots that it had

@@ -9,6 +9,7 @@ mod Rewriting
 mod Ranges
 mod Faults
 mod Sorting
+mod Ordering
 mod Keeping
 mod Agreement
 mod Determining

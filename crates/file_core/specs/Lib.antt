@@ -8,6 +8,7 @@ pub mod Step
 pub mod Stored
 pub mod Slots
 pub mod Plain
+pub mod FreeOrder
 pub mod Mirrors
 pub mod StockInside
 pub mod StockWords

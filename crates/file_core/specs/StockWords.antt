@@ -5,13 +5,14 @@ use Rattle.domains.specs.Drive.{Spot}
 use Rattle.board_log.specs.Board.{up_after}
 use Rattle.file_core.specs.Slots.{spot_of, one_if, count_at, Tell}
 use Rattle.file_core.specs.Plain.{Shelves, SortsSlots}
+use Rattle.file_core.specs.FreeOrder.{StandInOrder, HasLowerNumber}
 use Rattle.file_core.specs.Mirrors.{mirror_of, IsMirror, AreCopies}
 use Rattle.domains.specs.Level.{two_copies}
 use Rattle.inode_codec.specs.Inode.{inode_bytes}
 use Rattle.file_core.specs.declared.plain.pair.Pair.{Pair}
 
 -- the pair was drawn from the stock: its slots are on two nodes, on drives that are up, hold these bytes, and are gone from
--- the free ones
+-- the free ones; of free slots in order those that are left stand in order, and have higher numbers than the two
 pub record Draws {S : Type 0} (place_of : S → RawPlace) (content : S → Option (List ℕ)) (old new : Shelves S) (bytes : List ℕ) (pair : Pair S) : Type 0 where
   pub mirror : IsMirror place_of old.shape pair
   pub first_up : up_after old.shape old.board (length old.board) (spot_of (place_of pair.first)).drive ≡ true
@@ -21,6 +22,9 @@ pub record Draws {S : Type 0} (place_of : S → RawPlace) (content : S → Optio
       ≡ count_at place_of p new.free + (one_if (p (spot_of (place_of pair.first))) + one_if (p (spot_of (place_of pair.second))))
   pub tell : Tell content old.free → Tell content new.free × IsSome (content pair.first) × IsSome (content pair.second)
   pub room : new.room ≡ old.room + 2
+  pub ordered : StandInOrder place_of old.free → StandInOrder place_of new.free
+  pub first_lower : StandInOrder place_of old.free → HasLowerNumber place_of new.free pair.first
+  pub second_lower : StandInOrder place_of old.free → HasLowerNumber place_of new.free pair.second
 
 -- the free slots stand where they stood, as many at each place
 abbrev pub SameFree : {S : Type 0} → (S → RawPlace) → Shelves S → Shelves S → Type 0
@@ -33,12 +37,15 @@ pub record SameBeside {S : Type 0} (old new : Shelves S) : Type 0 where
   pub retired : new.retired ≡ old.retired
   pub spare : new.spare ≡ old.spare
 
--- the pair went back: its slots are among the free ones where their drives are up, else among the retired ones
+-- the pair went back: its slots are among the free ones where their drives are up, else among the retired ones; free slots in
+-- order that have higher numbers than the two stand in order with them
 pub record Releases {S : Type 0} (place_of : S → RawPlace) (old new : Shelves S) (pair : Pair S) : Type 0 where
   pub moved : (p : S → Bool) → count_by p new.free + count_by p new.retired
       ≡ (count_by p old.free + count_by p old.retired) + (one_if (p pair.first) + one_if (p pair.second))
   pub more : (p : S → Bool) → count_by p old.free ≤ count_by p new.free
   pub sorted : SortsSlots place_of old new
+  pub ordered : StandInOrder place_of old.free → HasLowerNumber place_of old.free pair.first
+      → HasLowerNumber place_of old.free pair.second → StandInOrder place_of new.free
   pub shape : new.shape ≡ old.shape
   pub board : new.board ≡ old.board
 

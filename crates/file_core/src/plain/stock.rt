@@ -9,6 +9,7 @@ ghost use Rattle.domains.specs.Room.{room_of};
 ghost use Rattle.domains.specs.DriveSet.{has};
 ghost use Rattle.board_log.specs.Board.{effect_of, up_after};
 ghost use Rattle.file_core.specs.Slots.{spot_of, is_place_of, one_if, count_at, AreOf};
+ghost use Rattle.file_core.specs.FreeOrder.{StandInOrder, HasLowerNumber};
 ghost use Rattle.file_core.specs.Plain.{HasRoom, SortsSlots, HasFailed};
 ghost use Rattle.file_core.specs.StockWords.{Draws, SameFree, SameBeside, Releases};
 ghost use Rattle.file_core.specs.Mirrors.{IsMirror};
@@ -156,8 +157,8 @@ impl<S: Slot + Drop> Stock<S> {
         ensures { Releases S.place_of self.old self.new pair }
     {
         let Pair { first, second } = pair;
-        self.release_slot(second);
         self.release_slot(first);
+        self.release_slot(second);
     }
 
     fn release_slot(&mut self, slot: S)
@@ -167,7 +168,10 @@ impl<S: Slot + Drop> Stock<S> {
         ensures moved { (p : S → Bool) → count_by p self.new.free + count_by p self.new.retired
             ≡ (count_by p self.old.free + count_by p self.old.retired) + one_if (p slot) }
         ensures more { (p : S → Bool) → count_by p self.old.free ≤ count_by p self.new.free }
+        ensures added { (p : S → Bool) → count_by p self.new.free ≤ count_by p self.old.free + one_if (p slot) }
         ensures sorted { SortsSlots S.place_of self.old self.new }
+        ensures ordered { StandInOrder S.place_of self.old.free → HasLowerNumber S.place_of self.old.free slot
+            → StandInOrder S.place_of self.new.free }
         ensures shape { self.new.shape ≡ self.old.shape }
         ensures board { self.new.board ≡ self.old.board }
         ensures room_left { self.old.room ≤ self.new.room + 1 }

@@ -1,4 +1,4 @@
-use Rattle.std.proofs.Common.{◌≡◌, ◌<◌, ◌≤◌, Bool, true, take, count_by, get_or}
+use Rattle.std.proofs.Common.{◌≡◌, ◌<◌, ◌≤◌, ◌+◌, Bool, true, take, count_by, get_or}
 use Rattle.domains.specs.Drive.{same_drive}
 use Rattle.file_core.specs.Slots.{spot_of}
 use Rattle.file_core.proofs.plain.pools.top_of.Given as goal
@@ -7,4 +7,6 @@ use Rattle.file_core.proofs.plain.pools.top_of.Given as goal
 abbrev pub invariant-loop-at : goal.invariant-loop-at
 invariant-loop-at g l =
     let is_there : g.row.S.Denot → Bool = λ x. same_drive l.drive (spot_of (g.S.Slot.place_of x)).drive in
-    1 ≤ count_by is_there (take l.at l.free) → (l.top < l.at) × ((d : g.row.S.Denot) → is_there (get_or l.free l.top d) ≡ true)
+    1 ≤ count_by is_there (take l.at l.free)
+    → (l.top < l.at) × ((d : g.row.S.Denot) → is_there (get_or l.free l.top d) ≡ true)
+    × (count_by is_there (take l.at l.free) ≡ count_by is_there (take (l.top + 1) l.free))

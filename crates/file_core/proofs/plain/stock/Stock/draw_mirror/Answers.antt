@@ -51,7 +51,8 @@ returns-in-Ok-clause-ok g c =
     _ _ c.take_top-first.result c.take_top-second.result c.write_both.new.pair c.args.bytes.now
     c.self.invariant.up_set c.self.invariant.free_of c.in-Some.ensures.found.0 c.in-Some.ensures.found.1
     c.take_top-first.ensures.on c.take_top-second.ensures.on c.take_top-first.ensures.moved c.take_top-second.ensures.moved
-    c.write_both.ensures.places c.in-Ok.ensures.tell c.in-Ok.ensures.ok (omega arith))
+    c.write_both.ensures.places c.in-Ok.ensures.tell c.in-Ok.ensures.ok (omega arith)
+    c.take_top-first.ensures.ordered c.take_top-second.ensures.ordered c.take_top-first.ensures.lowest c.take_top-second.ensures.lowest)
 
 pub returns-in-Err-clause-kept : goal.returns-in-Err-clause-kept
 returns-in-Err-clause-kept g c =

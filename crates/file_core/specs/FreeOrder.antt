@@ -1,0 +1,40 @@
+-- The order of the free slots: drive by drive, each drive's from the bottom of its stack.
+use Rattle.std.specs.Prelude.{◌≡◌, ℕ, ◌<◌, ◌≤◌, nat_le, nat_lt, ◌==◌, Bool, ◌&&◌, ◌||◌, List, [], ◌∷◌, map}
+use Rattle.std.specs.List.{AllByRecursion}
+use Rattle.flex_io.specs.declared.raw_place.RawPlace.{RawPlace}
+use Rattle.domains.specs.Drive.{Drive, Spot, same_drive}
+use Rattle.file_core.specs.Slots.{spot_of, count_at}
+use Rattle.file_core.specs.Plain.{Shelves, Holding}
+
+-- the first drive is before the other in drive order
+abbrev pub is_before : Drive → Drive → Bool
+is_before a b = nat_lt a.node b.node || ((a.node == b.node) && nat_lt a.drive b.drive)
+
+-- the place a comes before b: its drive is before that of b, or they are on one drive and its slot has the higher number
+pub record ComesBefore (a b : Spot) : Type 0 where
+  pub nodes : a.drive.node ≤ b.drive.node
+  pub drives : a.drive.node ≡ b.drive.node → a.drive.drive ≤ b.drive.drive
+  pub slots : a.drive.node ≡ b.drive.node → a.drive.drive ≡ b.drive.drive → b.slot < a.slot
+
+-- each of the places comes before all behind it
+abbrev pub AreInOrder : List Spot → Type 0
+AreInOrder [] = Unit {0}
+AreInOrder (s ∷ ss) = AllByRecursion (ComesBefore s) ss × AreInOrder ss
+
+-- the place is on one drive with the other, and its number is no higher
+abbrev pub is_under : Spot → Spot → Bool
+is_under s t = same_drive t.drive s.drive && nat_le s.slot t.slot
+
+module _ {S : Type 0} (place_of : S → RawPlace) where
+  -- the slots stand in order
+  abbrev pub StandInOrder : List S → Type 0
+  StandInOrder slots = AreInOrder (map (λ x. spot_of (place_of x)) slots)
+
+  -- the slot has a lower number than each of these that is on its drive
+  abbrev pub HasLowerNumber : List S → S → Type 0
+  HasLowerNumber slots x = count_at place_of (λ s. is_under s (spot_of (place_of x))) slots ≡ 0
+
+  -- the free slots stand in order, and while the file has no group, those of its inode have lower numbers than they
+  pub record AreKeptInOrder (file : Holding S) (stock : Shelves S) : Type 0 where
+    pub free : StandInOrder stock.free
+    pub inode : file.units ≡ [] → AllByRecursion (HasLowerNumber stock.free) file.inode
