@@ -3,6 +3,7 @@ use Rattle.std.proofs.Common.{◌≡◌, ℕ, ◌+◌, ◌-◌, ◌*◌, ◌<◌
 use Rattle.std.proofs.lemmas.Bool.{cases_lt, lt-ltb, le-ltb, and_from, and_left, and_right}
 use Rattle.std.proofs.lemmas.List.{take-append-le, drop-append-le, take_min, length-drop}
 use Rattle.flex_io.specs.Slots.{Holds}
+use Rattle.std.specs.List.{AllByRecursion}
 use Rattle.flex_io.specs.declared.raw_place.RawPlace.{RawPlace}
 use Rattle.domains.specs.Drive.{Drive, Spot}
 use Rattle.domains.specs.Cluster.{Cluster}
@@ -18,7 +19,8 @@ use Rattle.file_core.specs.Live.{range, holds_byte, short_in, first_short}
 use Rattle.file_core.specs.Moments.{last_moment}
 use Rattle.file_core.specs.Step.{Shows}
 use Rattle.file_core.specs.Slots.{spot_of, is_place_of, one_if, count_at, Tell}
-use Rattle.file_core.specs.Mirrors.{mirror_of, IsMirror, AreCopies, AreTold, SameSlots}
+use Rattle.file_core.specs.FreeOrder.{HasLowerNumber}
+use Rattle.file_core.specs.Mirrors.{slots_of, mirror_of, IsMirror, AreCopies, AreTold, SameSlots}
 use Rattle.file_core.specs.LiveMirrors.{live_pair, lost_mirror}
 use Rattle.file_core.specs.Plain.{Shelves, AllTell, Plays}
 use Rattle.galois.specs.Field.{IsByte}
@@ -168,6 +170,19 @@ module _ {S : Type 0} (place_of : S → RawPlace) (content : S → Option (List 
         },
       )
 
+  -- the inode of a file without a group is where it was
+  same_kept : (old new : Standing S) (free : List S) → SameStanding place_of content old new
+      → (units_of old ≡ [] → AllByRecursion (HasLowerNumber place_of free) (inode_slots old))
+      → units_of new ≡ [] → AllByRecursion (HasLowerNumber place_of free) (inode_slots new)
+  same_kept Absent new free same = subst (λ (st : Standing S). units_of st ≡ [] → AllByRecursion (HasLowerNumber place_of free) (inode_slots st)) (sym same)
+  same_kept (Empty i) new free same = subst (λ (st : Standing S). units_of st ≡ [] → AllByRecursion (HasLowerNumber place_of free) (inode_slots st)) (sym same)
+  same_kept (Written size us i) Absent free same = absurd same
+  same_kept (Written size us i) (Empty other) free same = absurd same
+  same_kept (Written size us i) (Written more others other) free same = λ kept none. absurd (some_slots others none)
+    where
+      some_slots : (pair : Pair S) → slots_of pair ≡ [] → ⊥
+      some_slots pair h = cc
+
   -- the bytes were shown
   pub shown_played : (by : By) (shape : Cluster) (offset len : ℕ) (bytes : List ℕ) (log later : List Told) (old new : Standing S) (stock : Shelves S)
       → later ≡ log ++ record { entry = record { by = by; epoch = length stock.board; event = Shown offset len bytes }; payload = [] } ∷ []
@@ -199,4 +214,5 @@ module _ {S : Type 0} (place_of : S → RawPlace) (content : S → Option (List 
         tell = λ tell.
             let both = same_tell old new same tell.units tell.inode in
             record { units = both.0; inode = both.1; free = tell.free; retired = tell.retired };
+        ordered = λ kept. record { free = kept.free; inode = same_kept old new stock.free same kept.inode };
       }

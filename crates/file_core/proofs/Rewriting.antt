@@ -26,6 +26,7 @@ use Rattle.file_core.specs.Writing.{chunk_count}
 use Rattle.file_core.specs.Step.{IsNewPlace, Writes, IsEvent}
 use Rattle.file_core.specs.Slots.{spot_of, is_place_of, one_if, count_at, Tell}
 use Rattle.file_core.specs.Plain.{Shelves, Holding, Plays, AllTell, slots_for, count_all, free_on, OneEach, HasRoom, IsUnwritten, is_placing, SortsSlots}
+use Rattle.file_core.specs.FreeOrder.{is_under, StandInOrder, HasLowerNumber}
 use Rattle.file_core.specs.Mirrors.{slots_of, mirror_of, IsMirror, AreCopies}
 use Rattle.file_core.specs.StockWords.{Draws, SameFree, SameBeside, Draws2, Releases}
 use Rattle.file_core.specs.FileInside.{is_present, holding, layout_of, inode_text, HoldsFile, KeepsFile, Played, Moves, MayRelease}
@@ -221,6 +222,19 @@ module _ {S : Type 0} (place_of : S → RawPlace) (content : S → Option (List 
         new_size = ap length (sym (ap (λ (o : List ℕ). overwrite o 0 bytes) empty ∙ overwrite-empty bytes));
       }
 
+  -- a slot that has a lower number than the free ones has one than those that two draws leave
+  still_lower : (stock ready mid : Shelves S) (bytes : List ℕ) (units inode : Pair S) (x : S) → ready.free ≡ stock.free
+      → Draws2 place_of content ready mid bytes units inode → HasLowerNumber place_of stock.free x → HasLowerNumber place_of mid.free x
+  still_lower stock ready mid bytes units inode x same drawn lower =
+      let p : Spot → Bool = λ s. is_under s (spot_of (place_of x)) in
+      let first = drawn.units_drawn.moved p in
+      let second = drawn.inode_drawn.moved p in
+      let before : count_at place_of p ready.free ≡ count_at place_of p stock.free = ap (count_at place_of p) same in
+      omega (arith, first, second, before, lower)
+
+  some_units : (units : Pair S) → slots_of units ≡ [] → ⊥
+  some_units units h = cc
+
   -- the bytes were written
   pub write_played : (by : By) (shape : Cluster) (log later : List Told) (bytes : List ℕ) (stock ready mid rest : Shelves S) (old units inode : Pair S)
       → stock.shape ≡ shape → ready.shape ≡ stock.shape → ready.board ≡ stock.board → ready.free ≡ stock.free → ready.retired ≡ stock.retired
@@ -299,6 +313,15 @@ module _ {S : Type 0} (place_of : S → RawPlace) (content : S → Option (List 
               inode = tell_pair place_of content inode told_inode.1 told_inode.2;
               free = omega (arith, moved, retired, none_free, old_told);
               retired = omega (arith, moved, retired, none_free, old_told);
+            };
+        ordered = λ kept.
+            let whole = subst (λ (l : List S). StandInOrder place_of l) (sym ready_free) kept.free in
+            let both = kept.inode refl in
+            let first = still_lower stock ready mid bytes units inode old.first ready_free drawn both.0 in
+            let second = still_lower stock ready mid bytes units inode old.second ready_free drawn both.1.0 in
+            record {
+              free = released.ordered (v.ordered (u.ordered whole)) first second;
+              inode = λ none. absurd (some_units units none);
             };
       }
 

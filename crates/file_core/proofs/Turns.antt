@@ -125,6 +125,7 @@ module _ {S : Type 0} (place_of : S → RawPlace) (content : S → Option (List 
         };
         inside = subst (λ (l : List Told). KeepsFile place_of content shape l standing) (sym grown) (refused_inside shape log standing t why refl inside);
         tell = λ told. record { units = told.units; inode = told.inode; free = told.free; retired = told.retired };
+        ordered = λ kept. record { free = kept.free; inode = kept.inode };
       }
 
   -- too few drives are up for a file that is not present, or is to be written
@@ -252,6 +253,10 @@ module _ {S : Type 0} (place_of : S → RawPlace) (content : S → Option (List 
               free = drawn.0;
               retired = subst (Tell content) (sym beside.retired) told.retired;
             };
+        ordered = λ kept. record {
+          free = draws.ordered kept.free;
+          inode = λ none. (draws.first_lower kept.free, (draws.second_lower kept.free, tt));
+        };
       }
 
   -- the slots of the new inode came from the stock

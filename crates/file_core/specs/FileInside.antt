@@ -13,6 +13,7 @@ use Rattle.file_core.specs.Layout.{Layout, empty_layout, layout_after}
 use Rattle.file_core.specs.Slots.{spot_of}
 use Rattle.file_core.specs.Mirrors.{slots_of, mirror_of, IsMirror, AreCopies, AreTold, SameSlots}
 use Rattle.file_core.specs.StockWords.{Releases}
+use Rattle.file_core.specs.FreeOrder.{AreKeptInOrder}
 use Rattle.file_core.specs.Plain.{Shelves, Holding, Plays, AllTell, count_all, free_on, slots_for, SortsSlots}
 use Rattle.domains.specs.declared.by.By.{By}
 use Rattle.domains.specs.Drive.{Drive}
@@ -77,11 +78,12 @@ module _ {S : Type 0} (place_of : S → RawPlace) (content : S → Option (List 
     pub holds : HoldsFile shape standing (bytes_after log)
     pub bytes : All IsByte (bytes_after log)
 
-  -- an operation was played: the log says it, the slots hold the file, and no slot was lost or made
+  -- an operation was played: the log says it, the slots hold the file, and free slots that were kept in order are so still
   pub record Played (by : By) (o : PlainOp) (shape : Cluster) (log later : List Told) (standing left : Standing S) (stock rest : Shelves S) : Type 0 where
     pub plays : Plays by o stock.board (AllTell content (holding shape log standing) stock) (holding shape log standing) (holding shape later left)
     pub inside : KeepsFile shape later left
     pub tell : AllTell content (holding shape log standing) stock → AllTell content (holding shape later left) rest
+    pub ordered : AreKeptInOrder place_of (holding shape log standing) stock → AreKeptInOrder place_of (holding shape later left) rest
 
   -- slots moved between the file and the stock, and from each drive no more than the operation may take
   pub record Moves (o : PlainOp) (shape : Cluster) (log later : List Told) (standing left : Standing S) (stock rest : Shelves S) : Type 0 where

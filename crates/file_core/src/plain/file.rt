@@ -6,6 +6,7 @@ ghost use Rattle.domains.specs.Drive.{Drive, Spot};
 ghost use Rattle.domains.specs.Level.{two_copies};
 ghost use Rattle.file_core.specs.Mirrors.{slots_of};
 ghost use Rattle.file_core.specs.FileInside.{units_of, inode_slots};
+ghost use Rattle.file_core.specs.FreeOrder.{AreKeptInOrder};
 ghost use Rattle.file_core.specs.Plain.{slots_for, MayPlay, count_all, free_on, OneEach, HasRoom, AllTell, Plays, Keeps, SortsSlots, HasFailed};
 
 use crate::entry::{FileEntry, FileLog, Told};
@@ -92,6 +93,7 @@ impl<S: Slot + Drop + Steady> PlainFile<S> {
         ensures conserved { (p : Spot → Bool) → count_all S.place_of p self.new stock.new ≡ count_all S.place_of p self.old stock.old }
         ensures spared { (d : Drive) → free_on S.place_of d stock.old ≤ free_on S.place_of d stock.new + slots_for op.now }
         ensures sorted { SortsSlots S.place_of stock.old stock.new }
+        ensures ordered { OnOk result (AreKeptInOrder S.place_of self.old stock.old → AreKeptInOrder S.place_of self.new stock.new) }
         ensures same_shape { self.new.shape ≡ self.old.shape }
         ensures same_stock { (stock.new.shape ≡ stock.old.shape) × (stock.new.board ≡ stock.old.board) }
     {

@@ -50,3 +50,15 @@ returns-in-Read-clause-keeps g c =
 
 pub returns-in-Read-clause-spared : goal.returns-in-Read-clause-spared
 returns-in-Read-clause-spared g c = rw c.in-Read.is c.read.ensures.moves.spared
+
+pub returns-in-Create-clause-ordered : goal.returns-in-Create-clause-ordered
+returns-in-Create-clause-ordered g c =
+    rw (← c.self.view_is) (on_ok_weaker c.create.result (λ played. played.ordered) c.create.ensures.played)
+
+pub returns-in-Write-clause-ordered : goal.returns-in-Write-clause-ordered
+returns-in-Write-clause-ordered g c =
+    rw (← c.self.view_is) (on_ok_weaker c.write.result (λ played. played.ordered) c.write.ensures.played)
+
+pub returns-in-Read-clause-ordered : goal.returns-in-Read-clause-ordered
+returns-in-Read-clause-ordered g c =
+    rw (← c.self.view_is) (on_ok_weaker c.read.result (λ played. played.ordered) c.read.ensures.played)
