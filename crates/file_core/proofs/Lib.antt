@@ -9,7 +9,7 @@ mod Rewriting
 mod Ranges
 mod Faults
 mod Sorting
-mod Ordering
+pub mod Ordering
 mod Keeping
 mod Agreement
 mod Determining

@@ -1,12 +1,13 @@
 -- Slots in order, of which one is taken, or to which one is added.
 use Rattle.std.proofs.Common.{◌≡◌, ◌≢◌, ℕ, ◌+◌, ◌<◌, ◌≤◌, leb, ltb, eqb, Bool, true, false, ◌&&◌, ◌||◌, cond, List, [], ◌∷◌, ◌++◌, length, take, drop, get_or, map, count_by, refl, sym, ap, ◌∙◌, inl, inr, ◌⊎◌, subst, add-one, arith}
 use Rattle.std.specs.List.{AllByRecursion}
-use Rattle.std.proofs.lemmas.Bool.{and_parts, and_cases, or_parts, and_left, and_right, cases_eq, cases_Bool, ltb-true, ltb-false, leb-false, eqb-true, eqb-false, eq-eqb, lt-leb, true≢false, false≢true}
+use Rattle.std.proofs.lemmas.Bool.{and_parts, and_cases, and_from, or_parts, and_left, and_right, cases_Bool, cases_lt, ltb-true, ltb-false, lt-ltb, leb-false, eqb-true, eqb-false, eq-eqb, ne_eqb, lt-leb, true≢false}
 use Rattle.std.proofs.lemmas.List.{take_all, take-append-drop, set_split, set-get_or}
 use Rattle.std.proofs.lemmas.List.Sums.{sum_by-cons, sum_by-take-drop}
 use Rattle.flex_io.specs.declared.raw_place.RawPlace.{RawPlace}
 use Rattle.domains.specs.Drive.{Drive, Spot, same_drive}
 use Rattle.file_core.specs.Slots.{spot_of, one_if, count_at}
+use Rattle.file_core.proofs.Orders.{same_drive-refl}
 use Rattle.file_core.proofs.Drawing.{same_drive-eq}
 use Rattle.file_core.specs.FreeOrder.{is_before, ComesBefore, AreInOrder, is_under, StandInOrder, HasLowerNumber}
 
@@ -14,44 +15,84 @@ none_of : (b : Bool) (n m : ℕ) → n ≡ one_if b + m → n ≡ 0 → (b ≡ f
 none_of true n m sum none = absurd (omega (arith, sum, none))
 none_of false n m sum none = (refl, omega (arith, sum, none))
 
--- a drive that is not behind another is before it or is the same
-not_behind : (a b : Drive) → is_before a b ≡ false → (b.node ≤ a.node) × (b.node ≡ a.node → b.drive ≤ a.drive)
+or_true : (b : Bool) → b || true ≡ true
+or_true true = refl
+or_true false = refl
+
+pub drive_eq : (a b : Drive) → a.node ≡ b.node → a.drive ≡ b.drive → a ≡ b
+drive_eq a b node drive =
+    ap (λ (n : ℕ). let made : Drive = record { node = n; drive = a.drive } in made) node
+    ∙ ap (λ (n : ℕ). let made : Drive = record { node = b.node; drive = n } in made) drive
+
+-- a drive of an earlier node is before, and so is an earlier drive of one node
+pub earlier_node : (a b : Drive) → a.node < b.node → is_before a b ≡ true
+earlier_node a b less = ap (λ x. x || (eqb a.node b.node && ltb a.drive b.drive)) (lt-ltb a.node b.node less)
+
+pub earlier_drive : (a b : Drive) → a.node ≡ b.node → a.drive < b.drive → is_before a b ≡ true
+earlier_drive a b same less =
+    ap (λ x. ltb a.node b.node || x) (and_from _ _ (eq-eqb a.node b.node same) (lt-ltb a.drive b.drive less)) ∙ or_true (ltb a.node b.node)
+
+-- a drive is before another, is it, or is behind it
+not_behind : (a b : Drive) → is_before a b ≡ false → (is_before b a ≡ true) ⊎ (b ≡ a)
 not_behind a b h =
     let parts = or_parts _ _ h in
-    let nodes = ltb-false a.node b.node parts.0 in (
-      nodes,
-      λ same. elim (and_cases _ _ parts.1) [
-        | inl other ↦ absurd (eqb-false a.node b.node other (sym same))
-        | inr later ↦ ltb-false a.drive b.drive later
-      ],
-    )
+    let nodes = ltb-false a.node b.node parts.0 in
+    elim (cases_lt b.node a.node) [
+      | inl less ↦ inl (earlier_node b a less)
+      | inr more ↦
+          let same : b.node ≡ a.node = omega (arith, nodes, more) in
+          elim (and_cases _ _ parts.1) [
+            | inl other ↦ absurd (eqb-false a.node b.node other (sym same))
+            | inr later ↦
+                let drives = ltb-false a.drive b.drive later in
+                elim (cases_lt b.drive a.drive) [
+                  | inl earlier ↦ inl (earlier_drive b a same earlier)
+                  | inr not_earlier ↦ inr (drive_eq b a same (omega (arith, drives, not_earlier)))
+                ]
+          ]
+    ]
 
-behind : (a b : Drive) → is_before a b ≡ true → (a.node ≤ b.node) × (a.node ≡ b.node → a.drive < b.drive)
-behind a b h = elim (cases_Bool (ltb a.node b.node)) [
-  | inl less ↦ let lower = ltb-true a.node b.node less in (omega (arith, lower), λ same. absurd (omega (arith, lower, same)))
+before : (a b : Drive) → is_before a b ≡ true → (a.node < b.node) ⊎ ((a.node ≡ b.node) × (a.drive < b.drive))
+before a b h = elim (cases_Bool (ltb a.node b.node)) [
+  | inl less ↦ inl (ltb-true a.node b.node less)
   | inr not_less ↦
       let both = and_parts _ _ (ap (λ x. x || (eqb a.node b.node && ltb a.drive b.drive)) (sym not_less) ∙ h) in
-      let same = eqb-true a.node b.node both.0 in
-      (omega (arith, same), λ again. ltb-true a.drive b.drive both.1)
+      inr (eqb-true a.node b.node both.0, ltb-true a.drive b.drive both.1)
 ]
 
-not_under : (s t : Spot) → is_under s t ≡ false → s.drive.node ≡ t.drive.node → s.drive.drive ≡ t.drive.drive → t.slot < s.slot
-not_under s t h node drive = elim (and_cases _ _ h) [
-  | inl other ↦ elim (and_cases _ _ other) [
-    | inl nodes ↦ absurd (eqb-false t.drive.node s.drive.node nodes (sym node))
-    | inr drives ↦ absurd (eqb-false t.drive.drive s.drive.drive drives (sym drive))
+before_then : (a b c : Drive) → is_before a b ≡ true → is_before b c ≡ true → is_before a c ≡ true
+before_then a b c one two = elim (before a b one) [
+  | inl less ↦ elim (before b c two) [
+    | inl again ↦ earlier_node a c (omega (arith, less, again))
+    | inr here ↦ let same = here.0 in earlier_node a c (omega (arith, less, same))
   ]
+  | inr here ↦
+      let same = here.0 in
+      let drives = here.1 in
+      elim (before b c two) [
+        | inl less ↦ earlier_node a c (omega (arith, less, same))
+        | inr there ↦
+            let more = there.1 in
+            earlier_drive a c (same ∙ there.0) (omega (arith, drives, more))
+      ]
+]
+
+not_itself : (a b : Drive) → is_before a b ≡ true → same_drive b a ≡ false
+not_itself a b h = elim (before a b h) [
+  | inl less ↦ and_left _ _ (ne_eqb b.node a.node (λ same. absurd (omega (arith, less, same))))
+  | inr here ↦ let drives = here.1 in and_right _ _ (ne_eqb b.drive a.drive (λ same. absurd (omega (arith, drives, same))))
+]
+
+not_under : (s t : Spot) → is_under s t ≡ false → s.drive ≡ t.drive → t.slot < s.slot
+not_under s t h same = elim (and_cases _ _ h) [
+  | inl other ↦ absurd (true≢false (sym (same_drive-refl t.drive) ∙ sym (ap (same_drive t.drive) same) ∙ other))
   | inr above ↦ leb-false s.slot t.slot above
 ]
 
 -- what comes before a place is not under it
 above : (s t : Spot) → ComesBefore s t → is_under s t ≡ false
-above s t before = elim (cases_Bool (same_drive t.drive s.drive)) [
-  | inl on ↦
-      let both = and_parts _ _ on in
-      and_right _ _ (lt-leb s.slot t.slot (before.slots (sym (eqb-true t.drive.node s.drive.node both.0)) (sym (eqb-true t.drive.drive s.drive.drive both.1))))
-  | inr off ↦ and_left _ _ off
-]
+above s t (inl drives) = and_left _ _ (not_itself s.drive t.drive drives)
+above s t (inr on) = and_right _ _ (lt-leb s.slot t.slot on.1)
 
 -- behind the last element that passes none does
 pub none_behind : {X : Type 0} (q : X → Bool) (xs : List X) (top at : ℕ) → length xs ≤ at → 1 ≤ count_by q xs
@@ -120,30 +161,9 @@ module _ {S : Type 0} (place_of : S → RawPlace) where
   BeginsBehind s [] = Unit {0}
   BeginsBehind s (y ∷ ys) = is_before s.drive (spot y).drive ≡ true
 
-  before_behind : (s t : Spot) → is_before s.drive t.drive ≡ true → ComesBefore s t
-  before_behind s t h =
-      let b = behind s.drive t.drive h in
-      record {
-        nodes = b.0;
-        drives = λ same. let less = b.1 same in omega (arith, less);
-        slots = λ same drive. let less = b.1 same in absurd (omega (arith, less, drive));
-      }
-
   before_later : (s t u : Spot) → is_before s.drive t.drive ≡ true → ComesBefore t u → ComesBefore s u
-  before_later s t u h next =
-      let b = behind s.drive t.drive h in
-      let nodes = next.nodes in
-      let first = b.0 in
-      let less : s.drive.node ≡ u.drive.node → s.drive.drive < u.drive.drive = λ same.
-      let joined : t.drive.node ≡ u.drive.node = omega (arith, nodes, first, same) in
-      let one = b.1 (same ∙ sym joined) in
-      let two = next.drives joined in
-      omega (arith, one, two) in
-      record {
-        nodes = omega (arith, nodes, first);
-        drives = λ same. let l = less same in omega (arith, l);
-        slots = λ same drive. let l = less same in absurd (omega (arith, l, drive));
-      }
+  before_later s t u h (inl next) = inl (before_then s.drive t.drive u.drive h next)
+  before_later s t u h (inr on) = inl (sym (ap (is_before s.drive) on.0) ∙ h)
 
   all_behind : (s t : Spot) (slots : List S) → is_before s.drive t.drive ≡ true → AllByRecursion (ComesBefore t) (spots slots) → AllByRecursion (ComesBefore s) (spots slots)
   all_behind s t [] h all = tt
@@ -151,7 +171,7 @@ module _ {S : Type 0} (place_of : S → RawPlace) where
 
   begins_behind : (x : S) (back : List S) → BeginsBehind (spot x) back → StandInOrder place_of back → AllByRecursion (ComesBefore (spot x)) (spots back)
   begins_behind x [] h order = tt
-  begins_behind x (y ∷ ys) h order = (before_behind (spot x) (spot y) h, all_behind (spot x) (spot y) ys h order.0)
+  begins_behind x (y ∷ ys) h order = (inl h, all_behind (spot x) (spot y) ys h order.0)
 
   -- slots in order stay so where one is put on top of its drive's stack that has a lower number than the slots on it
   pub put_in_order : (x : S) (front back : List S) → count_at place_of (λ s. is_before (spot x).drive s.drive) front ≡ 0 → BeginsBehind (spot x) back
@@ -160,12 +180,10 @@ module _ {S : Type 0} (place_of : S → RawPlace) where
   put_in_order x (y ∷ ys) back none first h lower =
       let here = none_of _ _ _ (count-cons (λ s. is_before (spot x).drive s.drive) y ys) none in
       let free = none_of _ _ _ (count-cons (λ s. is_under s (spot x)) y (ys ++ back)) lower in
-      let drives = not_behind (spot x).drive (spot y).drive here.0 in
-      let before : ComesBefore (spot y) (spot x) = record {
-        nodes = drives.0;
-        drives = drives.1;
-        slots = not_under (spot y) (spot x) free.0;
-      } in
+      let before : ComesBefore (spot y) (spot x) = elim (not_behind (spot x).drive (spot y).drive here.0) [
+        | inl earlier ↦ inl earlier
+        | inr on ↦ inr (on, not_under (spot y) (spot x) free.0 on)
+      ] in
       (all_put (spot y) x ys back before h.0, put_in_order x ys back here.1 first h.1 free.1)
 
   -- a drive's top slot was taken

@@ -1,5 +1,5 @@
 -- The order of the free slots: drive by drive, each drive's from the bottom of its stack.
-use Rattle.std.specs.Prelude.{◌≡◌, ℕ, ◌<◌, ◌≤◌, nat_le, nat_lt, ◌==◌, Bool, ◌&&◌, ◌||◌, List, [], ◌∷◌, map}
+use Rattle.std.specs.Prelude.{◌≡◌, ◌⊎◌, ◌<◌, nat_le, nat_lt, ◌==◌, Bool, true, ◌&&◌, ◌||◌, List, [], ◌∷◌, map}
 use Rattle.std.specs.List.{AllByRecursion}
 use Rattle.flex_io.specs.declared.raw_place.RawPlace.{RawPlace}
 use Rattle.domains.specs.Drive.{Drive, Spot, same_drive}
@@ -10,11 +10,10 @@ use Rattle.file_core.specs.Plain.{Shelves, Holding}
 abbrev pub is_before : Drive → Drive → Bool
 is_before a b = nat_lt a.node b.node || ((a.node == b.node) && nat_lt a.drive b.drive)
 
--- the place a comes before b: its drive is before that of b, or they are on one drive and its slot has the higher number
-pub record ComesBefore (a b : Spot) : Type 0 where
-  pub nodes : a.drive.node ≤ b.drive.node
-  pub drives : a.drive.node ≡ b.drive.node → a.drive.drive ≤ b.drive.drive
-  pub slots : a.drive.node ≡ b.drive.node → a.drive.drive ≡ b.drive.drive → b.slot < a.slot
+-- the first place comes before the other: its drive is before the other's, or they are on one drive and its slot has the
+-- higher number
+abbrev pub ComesBefore : Spot → Spot → Type 0
+ComesBefore s t = (is_before s.drive t.drive ≡ true) ⊎ ((s.drive ≡ t.drive) × (t.slot < s.slot))
 
 -- each of the places comes before all behind it
 abbrev pub AreInOrder : List Spot → Type 0
