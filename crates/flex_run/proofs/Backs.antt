@@ -16,6 +16,7 @@ use Rattle.file_core.proofs.Orders.{same_drive-refl}
 use Rattle.file_core.specs.Bytes.{bytes_after}
 use Rattle.file_core.specs.Layout.{Layout, layout_after, group_list}
 use Rattle.file_core.specs.Slots.{spot_of, count_at, Tell, content_at}
+use Rattle.file_core.specs.FreeOrder.{AreInOrder, AreKeptInOrder}
 use Rattle.file_core.specs.Stored.{AreHeld, HoldsGroup, HoldsGroups, SpellsInode, IsStored}
 use Rattle.file_core.specs.Plain.{Shelves, Holding, AllTell, count_all}
 use Rattle.file_core.specs.declared.entry.Told.{Told}
@@ -29,6 +30,7 @@ use Rattle.flex_run.specs.StockOrder.{stock_order, spots_of, told_or_none, retur
 use Rattle.flex_run.specs.Standing.{entries_of, HasLogs, AreLost, Leaves}
 use Rattle.flex_run.specs.Back.{spots_back, returned_at, IsFileBack, AreFilesBack, IsBack, BringsBack}
 use Rattle.flex_run.proofs.Places.{count_at-stock, count_by-map}
+use Rattle.flex_run.proofs.StockInOrder.{stock_in_order}
 use Rattle.flex_run.proofs.Starts.{new_file, new_stock, AllTell-form}
 use Rattle.flex_run.proofs.Runs.{logs_of, all_told-entries}
 
@@ -145,6 +147,14 @@ module _ {S : Type 0} (place_of : S → RawPlace) (content : S → Option (List 
         omega (arith, here, sum)),
   )
 
+  -- all slots of a cluster are kept in order
+  kept_at_start : (slots : List S) (shape : Cluster) (room spare : ℕ) → spots_of place_of slots ≡ stock_order shape
+      → AreKeptInOrder place_of (new_file shape) (new_stock shape slots room spare)
+  kept_at_start slots shape room spare order = record {
+    free = subst AreInOrder (sym order) (stock_in_order shape);
+    inode = λ none. tt;
+  }
+
   -- the slots of a run come back as its logs say
   IsBack-run : (s : Scenario) (script : List Op) (tell : Type 0) (slots : List S) (room spare : ℕ) (g : Holding S) (next : Shelves S) → IsFirstForm s
       → HasLogs tell s script next.board g.log
@@ -188,6 +198,7 @@ module _ {S : Type 0} (place_of : S → RawPlace) (content : S → Option (List 
         lost = subst (λ (l : List Spot). AllByRecursion (λ (x : Spot). up_after s.shape next.board (length next.board) x.drive ≡ false) l) (sym (spots_same next.retired))
             (lost_all (λ x. up_after s.shape next.board (length next.board) x.drive) next.retired
             (λ x up. left.lost x (ap (λ (c : Cluster). up_after c next.board (length next.board) x.drive) left.stock_shape ∙ up)));
+        in_order = subst AreInOrder (sym (spots_same next.free)) (left.ordered (kept_at_start slots s.shape room spare order)).free;
         each = λ p.
             let counted = spots_counted p (g.units ++ (g.inode ++ (next.retired ++ next.free))) in
             let a = sum_by-append (λ x. one (p (spot_of (place_of x)))) g.units (g.inode ++ (next.retired ++ next.free)) in

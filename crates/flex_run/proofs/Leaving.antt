@@ -36,6 +36,7 @@ module _ {S : Type 0} (place_of : S → RawPlace) (content : S → Option (List 
     lost = λ s up. refl;
     conserved = λ p. refl;
     tell = λ told. told;
+    ordered = λ kept. kept;
   }
 
   pub Leaves-start : (shape : Cluster) (slots : List S) (f : Holding S) (stock : Shelves S) → f ≡ new_file shape → stock ≡ new_stock shape slots stock.room stock.spare
@@ -60,6 +61,7 @@ module _ {S : Type 0} (place_of : S → RawPlace) (content : S → Option (List 
         does.sorted.up s before ∙ left.lost s before;
     conserved = λ p. does.conserved p ∙ left.conserved p;
     tell = λ start. tell (left.tell start);
+    ordered = λ start. does.ordered (left.ordered start);
   }
 
   Leaves-fail : (shape : Cluster) (drive : Drive) (by : By) (f : Holding S) (stock : Shelves S) (g : Holding S) (now : Shelves S) (h : Holding S) (next : Shelves S)
@@ -76,6 +78,7 @@ module _ {S : Type 0} (place_of : S → RawPlace) (content : S → Option (List 
             left.lost s ((and_parts _ _ both).1);
         conserved = left.conserved;
         tell = λ start. let told = left.tell start in record { units = told.units; inode = told.inode; free = told.free; retired = told.retired };
+        ordered = λ start. let kept = left.ordered start in record { free = kept.free; inode = kept.inode };
       } in
       subst (λ (k : Shelves S). Leaves place_of content shape f stock h k) (sym does.stock_is)
       (subst (λ (k : Holding S). Leaves place_of content shape f stock k after) (sym does.file_is) made)

@@ -6,6 +6,7 @@ pub mod Events
 pub mod GoingOn
 pub mod Stacks
 pub mod Places
+mod StockInOrder
 pub mod Doing
 pub mod Starts
 pub mod Leaving

@@ -10,6 +10,7 @@ use Rattle.board_log.specs.Board.{up_after}
 use Rattle.file_core.specs.Bytes.{bytes_after}
 use Rattle.file_core.specs.Layout.{layout_after, group_list, places_of}
 use Rattle.file_core.specs.Slots.{spot_of}
+use Rattle.file_core.specs.FreeOrder.{AreInOrder}
 use Rattle.file_core.specs.Stored.{IsStored}
 use Rattle.file_core.specs.declared.entry.FileEntry.{FileEntry}
 use Rattle.file_core.specs.declared.entry.Told.{Told}
@@ -43,7 +44,8 @@ AreFilesBack (f ∷ fs) (log ∷ rest) s back =
     × IsFileBack f (all_told s log) s.shape.unit units inode × AreFilesBack fs rest s later
 
 -- the slots that came back after a run with these logs: the files' units, the retired slots, which stand on drives that are
--- lost, and the free ones; each place of the cluster once
+-- lost, and the free ones in drive order, each drive's from the bottom of its stack, where numbers descend; each place of the
+-- cluster once
 pub record IsBack (logs : Logs) (back : List Returned) : Type 0 where
   pub files : List Returned
   pub retired : List Returned
@@ -51,6 +53,7 @@ pub record IsBack (logs : Logs) (back : List Returned) : Type 0 where
   pub all : back ≡ files ++ (retired ++ free)
   pub of_files : AreFilesBack logs.scenario.files logs.files logs.scenario files
   pub lost : AllByRecursion (λ (s : Spot). up_after logs.scenario.shape logs.board (length logs.board) s.drive ≡ false) (spots_back retired)
+  pub in_order : AreInOrder (spots_back free)
   pub each : (p : Spot → Bool) → count_by p (spots_back back) ≡ count_by p (stock_order logs.scenario.shape)
 
 -- the slots came back after what came back before, where the rack tells

@@ -8,6 +8,7 @@ use Rattle.board_log.specs.Board.{effect_of}
 use Rattle.board_log.specs.declared.entry.Order.TheVariants as order
 use Rattle.board_log.specs.declared.entry.BoardEntry.{BoardEntry}
 use Rattle.file_core.specs.Plain.{Shelves, Holding, Plays, MayPlay, slots_for, free_on, count_all, Keeps, SortsSlots}
+use Rattle.file_core.specs.FreeOrder.{AreKeptInOrder}
 use Rattle.file_core.specs.declared.plain.op.PlainOp.{PlainOp}
 use Rattle.file_core.specs.declared.plain.op.PlainOp.TheVariants as plain
 use Rattle.scenarios.specs.declared.op.Op.{Op}
@@ -45,6 +46,7 @@ pub record DoesPlain {S : Type 0} (place_of : S → RawPlace) (content : S → O
   pub conserved : (p : Spot → Bool) → count_all place_of p g next ≡ count_all place_of p f stock
   pub spared : (d : Drive) → free_on place_of d stock ≤ free_on place_of d next + slots_for o
   pub sorted : SortsSlots place_of stock next
+  pub ordered : AreKeptInOrder place_of f stock → AreKeptInOrder place_of g next
 
 -- the board took an order to fail a drive, and the file stays
 pub record DoesFail {S : Type 0} (by : By) (d : Drive) (f : Holding S) (stock : Shelves S) (g : Holding S) (next : Shelves S) : Type 0 where

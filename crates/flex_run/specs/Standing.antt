@@ -12,6 +12,7 @@ use Rattle.file_core.specs.World.{world_of}
 use Rattle.file_core.specs.Step.{IsLegalLog}
 use Rattle.file_core.specs.Slots.{count_at}
 use Rattle.file_core.specs.Plain.{Shelves, Holding, OneEach, IsUnwritten, free_on, count_all, AllTell, Keeps}
+use Rattle.file_core.specs.FreeOrder.{AreKeptInOrder}
 use Rattle.file_core.specs.declared.entry.FileEntry.{FileEntry}
 use Rattle.file_core.specs.declared.entry.Told.{Told}
 use Rattle.scenarios.specs.declared.op.Op.{Op}
@@ -80,8 +81,8 @@ abbrev pub AreLost : {S : Type 0} → (S → RawPlace) → Shelves S → Type 0
 AreLost place_of stock =
     (s : Spot) → up_after stock.shape stock.board (length stock.board) s.drive ≡ true → count_at place_of (same_spot s) stock.retired ≡ 0
 
--- what some operations leave of a file and its stock: the file is stored, retired slots stand on lost drives, and no slot was
--- lost or made
+-- what some operations leave of a file and its stock: the file is stored, retired slots stand on lost drives, no slot was
+-- lost or made, and free slots that were kept in order are so still
 pub record Leaves {S : Type 0} (place_of : S → RawPlace) (content : S → Option (List ℕ)) (shape : Cluster) (f : Holding S) (stock : Shelves S) (g : Holding S) (next : Shelves S) : Type 0 where
   pub file_shape : g.shape ≡ shape
   pub stock_shape : next.shape ≡ shape
@@ -89,3 +90,4 @@ pub record Leaves {S : Type 0} (place_of : S → RawPlace) (content : S → Opti
   pub lost : AreLost place_of next
   pub conserved : (p : Spot → Bool) → count_all place_of p g next ≡ count_all place_of p f stock
   pub tell : AllTell content f stock → AllTell content g next
+  pub ordered : AreKeptInOrder place_of f stock → AreKeptInOrder place_of g next
