@@ -13,3 +13,4 @@ pub mod Leaving
 pub mod Runs
 pub mod Backs
 pub mod Results
+pub mod Lines

@@ -1,6 +1,7 @@
 -- What the top call did.
-use Rattle.std.specs.Prelude.{codes, ◌≡◌, ◌⊎◌, ℕ, List, [], ◌∷◌, Option, IsUtf8}
+use Rattle.std.specs.Prelude.{codes, ◌≡◌, ◌⊎◌, ℕ, List, [], ◌∷◌, map, Contains, Option, IsSome, IfSome, IsUtf8}
 use Rattle.std.specs.Io.KnownBytes.{Appends}
+use Rattle.flex_io.specs.Inputs.{AppendsFront}
 use Rattle.scenarios.specs.declared.scenario.Scenario.{Scenario}
 use Rattle.scenario_text.specs.Spelling.{Spells}
 use Rattle.scenario_text.specs.FirstForm.{IsFirstForm}
@@ -56,3 +57,13 @@ abbrev pub fault_lines : List (ℕ × List ℕ)
 fault_lines =
     (2, codes "fault words\n") ∷ (3, codes "fault scenario unbuilt 0 0\n") ∷ (4, codes "fault read\n")
     ∷ (7, codes "fault long\n") ∷ (8, codes "fault rack\n") ∷ []
+
+-- all lines that a run may write in place of a report
+abbrev pub told_lines : List (List ℕ)
+told_lines = codes "fault memory\n" ∷ map (λ (row : ℕ × List ℕ). row.1) fault_lines
+
+-- the sink took a front of such a line or, where the source and the rack tell, of the report of the run
+pub record TookFront (input : Option (List ℕ)) (back_before back_now : Option (List Returned)) (before now : Option (List ℕ)) : Type 0 where
+  pub text : List ℕ
+  pub told : Contains told_lines text ⊎ IfSome input (λ i. IsSome back_before → IsReport i text back_before back_now)
+  pub front : AppendsFront before now text

@@ -5,13 +5,14 @@ ghost use Rattle.std.specs.Result.{IsErrOf};
 ghost use Rattle.std.specs.List.{AllByRecursion};
 ghost use Rattle.std.specs.Io.KnownBytes.{Appends};
 ghost use Rattle.flex_io.specs.Faults.{HasRisen};
+ghost use Rattle.flex_io.specs.Inputs.{AppendsFront};
 ghost use Rattle.scenario_text.specs.FirstForm.{IsFirstForm};
 ghost use Rattle.report.specs.Script.{HasSerialEpochs};
 ghost use Rattle.report.specs.Legal.{IsLegalRun};
 ghost use Rattle.flex_run.specs.Words.{IsAccepted};
 ghost use Rattle.flex_run.specs.Back.{BringsBack};
 ghost use Rattle.flex_run.specs.Faults.{RackFailed};
-ghost use Rattle.flex_run.specs.Run.{IsReport, RanLegally, IsPlayable, IsPlayed, IsOrUnwritten, IsRunStatus, fault_lines};
+ghost use Rattle.flex_run.specs.Run.{IsReport, RanLegally, IsPlayable, IsPlayed, IsOrUnwritten, IsRunStatus, TookFront, fault_lines};
 ghost use Rattle.flex_run.specs.Stops.{IsReadStop, IsTextStop, IsPlayStop, IsRefusal, IsTooLong, IsRunResult};
 
 use crate::play::{PlayFault, play_serial};
@@ -46,6 +47,9 @@ where
     // Without one, the sink took the line of the status.
     ensures line { AllByRecursion (λ row. result ≡ row.0 → Appends (Si.taken sink.old) (Si.taken sink.new) row.1) fault_lines }
 
+    // Whatever the status, it took no more than a front of the report or of a line.
+    ensures front { TookFront (So.remaining source.old) (R.back rack.old) (R.back rack.new) (Si.taken sink.old) (Si.taken sink.new) }
+
     // The status of each refusal comes with its cause alone, and where its cause is.
     ensures words { result ≡ 2 → ¬ (IsAccepted words.now) }
     ensures words_refused { ¬ (IsAccepted words.now) → IsOrUnwritten 2 result }
@@ -78,6 +82,7 @@ fn tell<Si: Sink>(sink: &mut Si, text: &str, status: u8) -> u8
     requires { status ≢ 5 }
     ensures status { IsOrUnwritten status result }
     ensures written { result ≢ 5 → result ≢ 6 → Appends (Si.taken sink.old) (Si.taken sink.new) text.now }
+    ensures front { AppendsFront (Si.taken sink.old) (Si.taken sink.new) text.now }
     ensures write { result ≡ 5 → HasRisen (Si.faults sink.old) (Si.faults sink.new) }
 {
     match write_all(sink, text.as_bytes()) {
