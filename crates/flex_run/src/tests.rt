@@ -161,3 +161,50 @@ fn the_slot_of_a_lost_drive_comes_back_behind_the_file_s(rt: HostRuntime) -> Res
     );
     Ok(())
 }
+
+#[test]
+fn the_free_slots_come_back_in_order(rt: HostRuntime) -> Result<(), Fail> {
+    let alloc = rt.alloc();
+    let mut source = SureSource::new(EDGES.as_bytes().to_vec(alloc)?);
+    let mut rack = SureRack::new(alloc);
+    let words = words(alloc, "run")?;
+    flex(
+        alloc,
+        words.as_slice(),
+        &mut source,
+        &mut SureSink::new(alloc),
+        &mut rack,
+        &OpenGate,
+    );
+    assert_eq!(rt; rack.back().len(), 24);
+    // The first inode's slots 0 of 1/1 and 2/1 are back, and the file holds slot 1 of both and two slots of 3/1.
+    let free = [
+        (1, 1, 3),
+        (1, 1, 2),
+        (1, 1, 0),
+        (1, 2, 3),
+        (1, 2, 2),
+        (1, 2, 1),
+        (1, 2, 0),
+        (2, 1, 3),
+        (2, 1, 2),
+        (2, 1, 0),
+        (2, 2, 3),
+        (2, 2, 2),
+        (2, 2, 1),
+        (2, 2, 0),
+        (3, 1, 3),
+        (3, 1, 2),
+        (3, 2, 3),
+        (3, 2, 2),
+        (3, 2, 1),
+        (3, 2, 0),
+    ];
+    for (slot, place) in rack.back()[4..].iter().zip(free.iter()) {
+        assert_eq!(rt;
+            (slot.place.node, slot.place.drive, slot.place.slot),
+            *place
+        );
+    }
+    Ok(())
+}
