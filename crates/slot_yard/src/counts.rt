@@ -1,0 +1,51 @@
+//! What a seat did with the slots of one drive.
+
+ghost use Rattle.std.specs.Prelude.{◌≡◌};
+ghost use Rattle.slot_yard.specs.Tallies.{count_one};
+
+/// What is done with a slot.
+#[derive(Clone, Copy, Debug, PartialEq, Eq)]
+pub enum Move {
+    /// It is put into the yard.
+    Put,
+    /// It is taken from the yard.
+    Take,
+    /// It is retired.
+    Retire,
+}
+
+/// How many slots of a drive a seat put into the yard, took from it, and retired, each modulo 2^64.
+#[derive(Clone, Copy, Debug, PartialEq, Eq)]
+pub struct Counts {
+    pub put: u64,
+    pub taken: u64,
+    pub retired: u64,
+}
+
+impl Counts {
+    /// Of a seat that was in no turn.
+    pub(crate) const NONE: Counts = Counts {
+        put: 0,
+        taken: 0,
+        retired: 0,
+    };
+
+    pub(crate) fn count(self, what: Move) -> Counts
+        ensures { result ≡ count_one what self }
+    {
+        match what {
+            Move::Put => Counts {
+                put: self.put.wrapping_add(1),
+                ..self
+            },
+            Move::Take => Counts {
+                taken: self.taken.wrapping_add(1),
+                ..self
+            },
+            Move::Retire => Counts {
+                retired: self.retired.wrapping_add(1),
+                ..self
+            },
+        }
+    }
+}
