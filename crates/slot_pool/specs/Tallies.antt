@@ -34,6 +34,14 @@ numbers_of t = t.taken ∷ t.given ∷ t.empties ∷ t.drawn ∷ []
 abbrev pub IsEven : Tally → Type 0
 IsEven t = t.taken ≡ t.given
 
+-- a seat with this tally took so many slots more than it gave, modulo 2^64
+abbrev pub HasKept : ℕ → Tally → Type 0
+HasKept kept t = t.taken % 2 ^ 64 ≡ (t.given + kept) % 2 ^ 64
+
+-- how many slots a seat with this tally took more than it gave, modulo 2^64
+abbrev pub kept_of : Tally → ℕ
+kept_of t = (t.taken + 2 ^ 64 - t.given % 2 ^ 64) % 2 ^ 64
+
 -- the free slots of a drive with so many and what all seats took and gave add up: modulo 2^64 to the drive's slots, and as
 -- far as the counts that stop tell to at least these. Where a seat found none, the seats took them all.
 pub record AddUp (slots free : ℕ) (tallies : List Tally) : Type 0 where

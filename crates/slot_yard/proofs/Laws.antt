@@ -18,7 +18,7 @@ use Rattle.turn_cell.specs.Seats.{Closes, FollowsEach, seat_view}
 use Rattle.slot_yard.specs.declared.counts.Counts.{Counts}
 use Rattle.slot_yard.specs.declared.counts.Move.{Move}
 use Rattle.slot_yard.specs.Slots.{count_on, is_on}
-use Rattle.slot_yard.specs.Tallies.{AreNew, HasLeft, Left, count_one, counts_of, no_counts, numbers_of, rank_of, tally_at, with_counts}
+use Rattle.slot_yard.specs.Tallies.{AreNew, HasLeft, Left, count_one, counts_of, left_of, no_counts, numbers_of, rank_of, tally_at, with_counts}
 use Rattle.slot_yard.specs.Yards.{IsNewYard, IsYard, YardView, moved}
 use Rattle.slot_yard.proofs.Ranks.{rank-within}
 
@@ -71,6 +71,12 @@ HasLeft-new shape y new d number =
     let gone = ap (λ c. c.retired) none in
     record { waiting_is = omega (arith, put, taken); retired_is = omega (arith, gone) }
 
+-- each tally says what its seat left
+pub HasLeft-left_of : (d : Drive) (tally : List Counts) → HasLeft d (left_of d tally) tally
+HasLeft-left_of d tally = record { waiting_is = waiting (counts_of d tally).put (counts_of d tally).taken; retired_is = refl } where
+  waiting : (put taken : ℕ) → (taken + (put + 2 ^ 64 - taken % 2 ^ 64) % 2 ^ 64) % 2 ^ 64 ≡ put % 2 ^ 64
+  waiting put taken = omega arith
+
 -- nothing left
 abbrev pub none_left : Left
 none_left = record { waiting = 0; retired = 0 }
@@ -117,6 +123,15 @@ module _ {S : Type 0} where
   AreLeftFrom d number [] (l ∷ ls) = ⊥
   AreLeftFrom d number (seat ∷ seats) [] = ⊥
   AreLeftFrom d number (seat ∷ seats) (l ∷ ls) = HasLeft d l (tally_at (seat_view seat).last.tallies number) × AreLeftFrom d (suc number) seats ls
+
+  -- what each seat, numbered from here on, left of the drive's slots
+  abbrev pub left_from : Drive → ℕ → List (Seat (YardView S)) → List Left
+  left_from d number [] = []
+  left_from d number (seat ∷ seats) = left_of d (tally_at (seat_view seat).last.tallies number) ∷ left_from d (suc number) seats
+
+  pub AreLeftFrom-left_from : (d : Drive) (number : ℕ) (seats : List (Seat (YardView S))) → AreLeftFrom d number seats (left_from d number seats)
+  AreLeftFrom-left_from d number [] = tt
+  AreLeftFrom-left_from d number (seat ∷ seats) = (HasLeft-left_of d (tally_at (seat_view seat).last.tallies number), AreLeftFrom-left_from d (suc number) seats)
 
   as_many : (d : Drive) (number : ℕ) (seats : List (Seat (YardView S))) (lefts : List Left) → AreLeftFrom d number seats lefts → length lefts ≡ length seats
   as_many d number [] [] left = refl

@@ -60,3 +60,10 @@ pub record Left : Type 0 where
 pub record HasLeft (d : Drive) (left : Left) (tally : List Counts) : Type 0 where
   pub waiting_is : ((counts_of d tally).taken + left.waiting) % 2 ^ 64 ≡ (counts_of d tally).put % 2 ^ 64
   pub retired_is : (counts_of d tally).retired % 2 ^ 64 ≡ left.retired % 2 ^ 64
+
+-- what a seat with this tally left of the drive's slots, modulo 2^64
+abbrev pub left_of : Drive → List Counts → Left
+left_of d tally = record {
+  waiting = ((counts_of d tally).put + 2 ^ 64 - (counts_of d tally).taken % 2 ^ 64) % 2 ^ 64;
+  retired = (counts_of d tally).retired;
+}
