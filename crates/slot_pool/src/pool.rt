@@ -1,6 +1,6 @@
 //! The free slots of one drive.
 
-ghost use Rattle.std.specs.Prelude.{◌≡◌, ◌≢◌, ◌↔◌, ◌<◌, ◌≤◌, [], ◌∷◌, ◌++◌, length, reverse, replicate, IsOk, IfOk, IfErr, OnOk, OnErr, vec_len, vec_capacity};
+ghost use Rattle.std.specs.Prelude.{◌≡◌, ◌≢◌, ◌↔◌, ◌+◌, ◌<◌, ◌≤◌, [], ◌∷◌, ◌++◌, length, reverse, replicate, IsOk, IfOk, IfErr, OnOk, OnErr, vec_len, vec_capacity};
 ghost use Rattle.slot_pool.specs.Places.{spot_of, IsOn, IsSpot};
 ghost use Rattle.slot_pool.specs.Tallies.{took, gave, found_none, no_tally};
 ghost use Rattle.slot_pool.specs.Pools.{counted, IsPool, AreSlotsOf};
@@ -128,11 +128,30 @@ impl<S: Slot + Send + Drop> Pool<S> {
         ensures kept { OnErr result (self.new ≡ self.old) }
         ensures pool { IsPool S.place_of self.new }
     {
-        let count = self.free.len();
-        let room = Vec::with_capacity(alloc, count)?;
-        let all = take_down(&mut self.free, room);
-        self.tallies.took(self.seat, count as u64);
+        let mut all = Vec::with_capacity(alloc, self.free.len())?;
+        self.take_all_into(&mut all);
         Ok(List::from_vec(all))
+    }
+
+    /// Takes all free slots, in the order in which `take` gives them, to the end of a vector that has room for them.
+    pub fn take_all_into(&mut self, all: &mut Vec<Held<S>>)
+        requires room { vec_len all.old + length self.old.free ≤ vec_capacity all.old }
+        ensures taken { all.new.items ≡ all.old.items ++ reverse self.old.free }
+        ensures room { vec_capacity all.new ≡ vec_capacity all.old }
+        ensures counted { self.new ≡ counted (took (length self.old.free)) [] self.old }
+        ensures pool { IsPool S.place_of self.new }
+    {
+        let count = self.free.len();
+        take_down(&mut self.free, all);
+        self.tallies.took(self.seat, count as u64);
+    }
+
+    /// The drive that the slots are on.
+    pub fn drive(&self) -> DriveId
+        ensures value { result ≡ self.now.drive }
+        ensures pool { IsPool S.place_of self.now }
+    {
+        self.drive
     }
 
     /// How many slots are free.
@@ -160,15 +179,15 @@ impl<S: Slot + Send + Drop> Pool<S> {
     }
 }
 
-/// Takes all slots off the stack, from its top, into the room for them.
-fn take_down<S>(free: &mut Vec<S>, mut room: Vec<Held<S>>) -> Vec<Held<S>>
-    requires { (room.items ≡ []) × (vec_len free.old ≤ vec_capacity room) }
-    ensures all { result.items ≡ reverse free.old.items }
+/// Takes all slots off the stack, from its top, to the end of the room for them.
+fn take_down<S>(free: &mut Vec<S>, all: &mut Vec<Held<S>>)
+    requires { vec_len all.old + vec_len free.old ≤ vec_capacity all.old }
+    ensures all { all.new.items ≡ all.old.items ++ reverse free.old.items }
+    ensures room { vec_capacity all.new ≡ vec_capacity all.old }
     ensures none { free.new.items ≡ [] }
     ensures capacity { vec_capacity free.new ≡ vec_capacity free.old }
 {
     while let Some(slot) = free.pop() {
-        room.push_reserved(Held::new(slot));
+        all.push_reserved(Held::new(slot));
     }
-    room
 }

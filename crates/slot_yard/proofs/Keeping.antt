@@ -10,7 +10,6 @@ use Rattle.domains.specs.Drive.{Drive, Spot, same_drive}
 use Rattle.flex_io.specs.declared.raw_place.RawPlace.{RawPlace}
 use Rattle.slot_pool.specs.Places.{spot_of, IsSpot}
 use Rattle.slot_yard.specs.declared.counts.Counts.{Counts}
-use Rattle.slot_yard.specs.declared.counts.Move.{Move}
 use Rattle.slot_yard.specs.declared.counts.Move.TheVariants.{Put, Take, Retire}
 use Rattle.slot_yard.specs.Slots.{IsPlaceOf, IsOldest, count_on, drive_of}
 use Rattle.slot_yard.specs.Tallies.{AddUp, AreNew, count_one, counts_of, no_counts, rank_of, tally_at, with_counts, with_tally}
@@ -76,28 +75,28 @@ module _ {S : Type 0} (place_of : S → RawPlace) where
       subst (λ (n : ℕ). rank_of d < n) (sym (is.drives y.seat [] (omega (arith, seat, seats)))) (rank-within y.shape d is.shape of)
 
   -- the parts that each count keeps
-  record Counted (y : YardView S) (tallies : List (List Counts)) : Type 0 where
+  pub record Counted (y : YardView S) (tallies : List (List Counts)) : Type 0 where
     pub within : y.seat < length y.tallies
     pub seats : length tallies ≡ 32
     pub drives : All (λ tally. length tally ≡ y.shape.nodes * 16) tallies
 
-  counted : (y : YardView S) (d : Drive) (what : Move) → IsYard place_of y → Counted y (with_tally y.seat (with_counts d (count_one what)) y.tallies)
-  counted y d what is =
+  pub counted : (y : YardView S) (d : Drive) (how : Counts → Counts) → IsYard place_of y → Counted y (with_tally y.seat (with_counts d how) y.tallies)
+  counted y d how is =
       let seat = is.seat in
       let seats = is.seats in
       let within : y.seat < length y.tallies = omega (arith, seat, seats) in
       let tally = tally_at y.tallies y.seat in
-      let long = length-set tally (rank_of d) (count_one what (counts_of d tally)) ∙ is.drives y.seat [] within in
+      let long = length-set tally (rank_of d) (how (counts_of d tally)) ∙ is.drives y.seat [] within in
       record {
         within = within;
-        seats = length-set y.tallies y.seat (with_counts d (count_one what) tally) ∙ seats;
-        drives = All-set (λ tally. length tally ≡ y.shape.nodes * 16) y.tallies y.seat (with_counts d (count_one what) tally) long is.drives;
+        seats = length-set y.tallies y.seat (with_counts d how tally) ∙ seats;
+        drives = All-set (λ tally. length tally ≡ y.shape.nodes * 16) y.tallies y.seat (with_counts d how tally) long is.drives;
       }
 
   pub IsYard-put : (y : YardView S) (slot : S) → IsYard place_of y → IsPlaceOf y.shape (spot_of (place_of slot)) → length (y.waiting ++ slot ∷ []) ≤ 819200
       → IsYard place_of (moved Put (drive_of place_of slot) (y.waiting ++ slot ∷ []) y.retired y)
   IsYard-put y slot is place few =
-      let kept = counted y (drive_of place_of slot) Put is in
+      let kept = counted y (drive_of place_of slot) (count_one Put) is in
       record {
         shape = is.shape;
         seat = is.seat;
@@ -116,7 +115,7 @@ module _ {S : Type 0} (place_of : S → RawPlace) where
   pub IsYard-retire : (y : YardView S) (slot : S) → IsYard place_of y → IsPlaceOf y.shape (spot_of (place_of slot)) → length (y.retired ++ slot ∷ []) ≤ 819200
       → IsYard place_of (moved Retire (drive_of place_of slot) y.waiting (y.retired ++ slot ∷ []) y)
   IsYard-retire y slot is place few =
-      let kept = counted y (drive_of place_of slot) Retire is in
+      let kept = counted y (drive_of place_of slot) (count_one Retire) is in
       record {
         shape = is.shape;
         seat = is.seat;
@@ -140,7 +139,7 @@ module _ {S : Type 0} (place_of : S → RawPlace) where
   pub IsYard-take : (y : YardView S) (d : Drive) (slot : S) (waiting : List S) → IsYard place_of y → IsOldest place_of d slot y.waiting waiting
       → IsYard place_of (moved Take d waiting y.retired y)
   IsYard-take y d slot waiting is oldest =
-      let kept = counted y d Take is in
+      let kept = counted y d (count_one Take) is in
       let parts = all_midst (λ slot. IsPlaceOf y.shape (spot_of (place_of slot))) oldest.before oldest.after slot (subst (All (λ slot. IsPlaceOf y.shape (spot_of (place_of slot)))) oldest.old_is is.waiting) in
       let of_e : is_of y.shape d ≡ true = subst (λ (x : Drive). is_of y.shape x ≡ true) oldest.on (parts.0).drive in
       let few = is.few_waiting in

@@ -1,5 +1,5 @@
 -- Laws for the layer above.
-use Rattle.std.proofs.Common.{◌≡◌, ℕ, zero, suc, ◌+◌, ◌*◌, ◌-◌, ◌%◌, ◌^◌, ◌<◌, ◌≤◌, true, List, [], ◌∷◌, length, drop, replicate, refl, sym, ap, ◌∙◌, subst, inl, inr, arith}
+use Rattle.std.proofs.Common.{◌≡◌, ℕ, zero, suc, ◌+◌, ◌*◌, ◌-◌, ◌%◌, ◌^◌, ◌<◌, ◌≤◌, true, List, [], ◌∷◌, ◌++◌, length, drop, replicate, reverse, refl, sym, ap, ◌∙◌, subst, inl, inr, arith}
 use Rattle.std.specs.Prelude.{slice_index, slice_index_or}
 use Rattle.std.specs.List.{sum_by}
 use Rattle.std.proofs.lemmas.Bool.{cases_lt, cases_eq}
@@ -17,9 +17,9 @@ use Rattle.turn_cell.specs.Notes.{AreZeros}
 use Rattle.turn_cell.specs.Seats.{Closes, FollowsEach, seat_view}
 use Rattle.slot_yard.specs.declared.counts.Counts.{Counts}
 use Rattle.slot_yard.specs.declared.counts.Move.{Move}
-use Rattle.slot_yard.specs.Slots.{count_on, is_on}
-use Rattle.slot_yard.specs.Tallies.{AreNew, HasLeft, Left, count_one, counts_of, left_of, no_counts, numbers_of, rank_of, tally_at, with_counts}
-use Rattle.slot_yard.specs.Yards.{IsNewYard, IsYard, YardView, moved}
+use Rattle.slot_yard.specs.Slots.{count_on, is_on, slots_beside, slots_on}
+use Rattle.slot_yard.specs.Tallies.{AreNew, HasLeft, Left, count_all, count_one, counts_of, left_of, no_counts, numbers_of, rank_of, tally_at, with_counts}
+use Rattle.slot_yard.specs.Yards.{IsNewYard, IsYard, YardView, moved, moved_by, without_drive}
 use Rattle.slot_yard.proofs.Ranks.{rank-within}
 
 -- tallies with the same numbers are one
@@ -194,28 +194,51 @@ module _ {S : Type 0} where
       let few_retired = is.few_retired in
       (omega (arith, a, waiting_is, w, few_waiting), omega (arith, b, retired_is, r, few_retired))
 
+  counts_moved_by : (place_of : S → RawPlace) (counted : Counts → Counts) (d : Drive) (waiting retired : List S) (y : YardView S) → IsYard place_of (moved_by counted d waiting retired y)
+      → is_of y.shape d ≡ true → counts_of d (tally_at (moved_by counted d waiting retired y).tallies y.seat) ≡ counted (counts_of d (tally_at y.tallies y.seat))
+  counts_moved_by place_of counted d waiting retired y is of =
+      let seat = is.seat in
+      let seats = is.seats in
+      let kept = length-set y.tallies y.seat (with_counts d counted (tally_at y.tallies y.seat)) in
+      let within : y.seat < length y.tallies = omega (arith, seat, seats, kept) in
+      let here = get_or-set_at y.tallies y.seat y.seat (with_counts d counted (tally_at y.tallies y.seat)) [] refl within in
+      let long = ap length (sym here) ∙ is.drives y.seat [] (omega (arith, seat, seats)) in
+      let same = length-set (tally_at y.tallies y.seat) (rank_of d) (counted (counts_of d (tally_at y.tallies y.seat))) in
+      let rank = rank-within y.shape d is.shape of in
+      ap (counts_of d) here
+      ∙ get_or-set_at (tally_at y.tallies y.seat) (rank_of d) (rank_of d) (counted (counts_of d (tally_at y.tallies y.seat))) no_counts refl (omega (arith, long, same, rank))
+
   -- what a call has counted for the drive in the tally of the seat whose turn it is
   pub counts_moved : (place_of : S → RawPlace) (what : Move) (d : Drive) (waiting retired : List S) (y : YardView S) → IsYard place_of (moved what d waiting retired y)
       → is_of y.shape d ≡ true → counts_of d (tally_at (moved what d waiting retired y).tallies y.seat) ≡ count_one what (counts_of d (tally_at y.tallies y.seat))
-  counts_moved place_of what d waiting retired y is of =
-      let seat = is.seat in
-      let seats = is.seats in
-      let kept = length-set y.tallies y.seat (with_counts d (count_one what) (tally_at y.tallies y.seat)) in
-      let within : y.seat < length y.tallies = omega (arith, seat, seats, kept) in
-      let here = get_or-set_at y.tallies y.seat y.seat (with_counts d (count_one what) (tally_at y.tallies y.seat)) [] refl within in
-      let long = ap length (sym here) ∙ is.drives y.seat [] (omega (arith, seat, seats)) in
-      let same = length-set (tally_at y.tallies y.seat) (rank_of d) (count_one what (counts_of d (tally_at y.tallies y.seat))) in
-      let rank = rank-within y.shape d is.shape of in
-      ap (counts_of d) here
-      ∙ get_or-set_at (tally_at y.tallies y.seat) (rank_of d) (rank_of d) (count_one what (counts_of d (tally_at y.tallies y.seat))) no_counts refl (omega (arith, long, same, rank))
+  counts_moved place_of what d waiting retired y is of = counts_moved_by place_of (count_one what) d waiting retired y is of
+
+  counts_known_by : (place_of : S → RawPlace) (counted : Counts → Counts) (d : Drive) (waiting retired : List S) (last x y new : YardView S) (number : ℕ)
+      → numbers_of (tally_at x.tallies number) ≡ numbers_of (tally_at last.tallies number) → y ≡ record x { seat = number }
+      → new ≡ moved_by counted d waiting retired y → IsYard place_of new → is_of x.shape d ≡ true
+      → counts_of d (tally_at new.tallies number) ≡ counted (counts_of d (tally_at last.tallies number))
+  counts_known_by place_of counted d waiting retired last x y new number same begins moved_is is of =
+      let all : new ≡ moved_by counted d waiting retired (record x { seat = number }) = moved_is ∙ ap (moved_by counted d waiting retired) begins in
+      ap (λ (y : YardView S). counts_of d (tally_at y.tallies number)) all
+      ∙ (counts_moved_by place_of counted d waiting retired (record x { seat = number }) (subst (IsYard place_of) all is) of
+      ∙ ap (λ tally. counted (counts_of d tally)) (same_counts _ _ same))
 
   -- the same of the seat's tally before its turn, which found x
   pub counts_known : (place_of : S → RawPlace) (what : Move) (d : Drive) (waiting retired : List S) (last x y new : YardView S) (number : ℕ)
       → numbers_of (tally_at x.tallies number) ≡ numbers_of (tally_at last.tallies number) → y ≡ record x { seat = number }
       → new ≡ moved what d waiting retired y → IsYard place_of new → is_of x.shape d ≡ true
       → counts_of d (tally_at new.tallies number) ≡ count_one what (counts_of d (tally_at last.tallies number))
-  counts_known place_of what d waiting retired last x y new number same begins moved_is is of =
-      let all : new ≡ moved what d waiting retired (record x { seat = number }) = moved_is ∙ ap (moved what d waiting retired) begins in
-      ap (λ (y : YardView S). counts_of d (tally_at y.tallies number)) all
-      ∙ (counts_moved place_of what d waiting retired (record x { seat = number }) (subst (IsYard place_of) all is) of
-      ∙ ap (λ tally. count_one what (counts_of d tally)) (same_counts _ _ same))
+  counts_known place_of what = counts_known_by place_of (count_one what)
+
+  -- the same where the turn retired the drive, of whose pool these slots were free
+  pub counts_retired : (place_of : S → RawPlace) (d : Drive) (free : List S) (last x y new : YardView S) (number : ℕ)
+      → numbers_of (tally_at x.tallies number) ≡ numbers_of (tally_at last.tallies number) → y ≡ record x { seat = number }
+      → new ≡ without_drive place_of d free y → IsYard place_of new → is_of x.shape d ≡ true
+      → counts_of d (tally_at new.tallies number)
+      ≡ count_all (count_on place_of d x.waiting) (length free + count_on place_of d x.waiting) (counts_of d (tally_at last.tallies number))
+  counts_retired place_of d free last x y new number same begins retired_is is of =
+      let waited = count_on place_of d x.waiting in
+      let rest = slots_beside place_of d x.waiting in
+      let gone = x.retired ++ reverse free ++ slots_on place_of d x.waiting in
+      counts_known_by place_of (count_all waited (length free + waited)) d rest gone last x y new number same begins
+      (retired_is ∙ ap (without_drive place_of d free) begins ∙ sym (ap (moved_by (count_all waited (length free + waited)) d rest gone) begins)) is of

@@ -3,4 +3,6 @@ mod Ranks
 mod Finding
 mod Moving
 mod Keeping
+mod Retiring
+mod Parting
 pub mod Laws

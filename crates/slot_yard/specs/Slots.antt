@@ -1,6 +1,6 @@
 -- Slots of a cluster, and those of one drive.
-use Rattle.std.specs.Prelude.{◌≡◌, ℕ, ◌<◌, Bool, true, false, List, ◌∷◌, ◌++◌, length, take, slice_index_or, count_by}
-use Rattle.std.specs.List.{All}
+use Rattle.std.specs.Prelude.{◌≡◌, ℕ, ◌<◌, Bool, not, true, false, List, ◌∷◌, ◌++◌, length, take, slice_index_or, count_by}
+use Rattle.std.specs.List.{All, filter}
 use Rattle.domains.specs.Cluster.{Cluster, is_of}
 use Rattle.domains.specs.Drive.{Drive, Spot, same_drive}
 use Rattle.flex_io.specs.declared.raw_place.RawPlace.{RawPlace}
@@ -23,6 +23,14 @@ module _ {S : Type 0} (place_of : S → RawPlace) where
   -- how many of the slots are on the drive
   abbrev pub count_on : Drive → List S → ℕ
   count_on d slots = count_by (is_on d) slots
+
+  -- the slots on the drive, in their order
+  abbrev pub slots_on : Drive → List S → List S
+  slots_on d slots = filter (is_on d) slots
+
+  -- the slots on other drives, in their order
+  abbrev pub slots_beside : Drive → List S → List S
+  slots_beside d slots = filter (λ slot. not (is_on d slot)) slots
 
   -- of the slots on the drive the one at this index comes first
   pub record IsFirstOn (d : Drive) (slots : List S) (at : ℕ) : Type 0 where

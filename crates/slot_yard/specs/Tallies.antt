@@ -15,6 +15,10 @@ count_one Put c = record c { put = (c.put + 1) % 2 ^ 64 }
 count_one Take c = record c { taken = (c.taken + 1) % 2 ^ 64 }
 count_one Retire c = record c { retired = (c.retired + 1) % 2 ^ 64 }
 
+-- the counts, with so many slots more that were taken from the yard and so many that were retired
+abbrev pub count_all : ℕ → ℕ → Counts → Counts
+count_all taken retired c = record c { taken = (c.taken + taken) % 2 ^ 64; retired = (c.retired + retired) % 2 ^ 64 }
+
 -- the place of a drive in a tally: node by node, with room for 16 drives each
 abbrev pub rank_of : Drive → ℕ
 rank_of d = (d.node - 1) * 16 + (d.drive - 1)

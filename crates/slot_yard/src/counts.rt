@@ -1,7 +1,7 @@
 //! What a seat did with the slots of one drive.
 
 ghost use Rattle.std.specs.Prelude.{◌≡◌};
-ghost use Rattle.slot_yard.specs.Tallies.{count_one};
+ghost use Rattle.slot_yard.specs.Tallies.{count_all, count_one};
 
 /// What is done with a slot.
 #[derive(Clone, Copy, Debug, PartialEq, Eq)]
@@ -46,6 +46,16 @@ impl Counts {
                 retired: self.retired.wrapping_add(1),
                 ..self
             },
+        }
+    }
+
+    pub(crate) fn count_all(self, taken: u64, retired: u64) -> Counts
+        ensures { result ≡ count_all taken retired self }
+    {
+        Counts {
+            taken: self.taken.wrapping_add(taken),
+            retired: self.retired.wrapping_add(retired),
+            ..self
         }
     }
 }

@@ -1,7 +1,7 @@
 //! The tallies of all seats of a yard.
 
 ghost use Rattle.std.specs.Prelude.{◌≡◌, ◌<◌, length, IfOk};
-ghost use Rattle.slot_yard.specs.Tallies.{AreNew, count_one, rank_of, tally_at, with_counts, with_tally};
+ghost use Rattle.slot_yard.specs.Tallies.{AreNew, count_all, count_one, rank_of, tally_at, with_counts, with_tally};
 
 use crate::counts::Move;
 use crate::tally::Tally;
@@ -47,5 +47,13 @@ impl Tallies {
         ensures { self.new ≡ with_tally seat (with_counts drive (count_one what)) self.old }
     {
         self.of_seats[usize::from(seat)].count(drive, what);
+    }
+
+    pub(crate) fn count_all(&mut self, seat: u8, drive: DriveId, taken: u64, retired: u64)
+        requires seat { seat < 32 }
+        requires within { rank_of drive < length (tally_at self.old seat) }
+        ensures { self.new ≡ with_tally seat (with_counts drive (count_all taken retired)) self.old }
+    {
+        self.of_seats[usize::from(seat)].count_all(drive, taken, retired);
     }
 }

@@ -1,7 +1,7 @@
 //! The tally of one seat.
 
 ghost use Rattle.std.specs.Prelude.{◌≡◌, ◌<◌, ◌*◌, length, replicate, IfOk};
-ghost use Rattle.slot_yard.specs.Tallies.{count_one, no_counts, rank_of, with_counts};
+ghost use Rattle.slot_yard.specs.Tallies.{count_all, count_one, no_counts, rank_of, with_counts};
 
 use crate::counts::{Counts, Move};
 use domains::DriveId;
@@ -39,6 +39,14 @@ impl Tally {
     {
         let rank = rank(drive);
         self.of_drives[rank] = self.of_drives[rank].count(what);
+    }
+
+    pub(crate) fn count_all(&mut self, drive: DriveId, taken: u64, retired: u64)
+        requires within { rank_of drive < length self.old }
+        ensures { self.new ≡ with_counts drive (count_all taken retired) self.old }
+    {
+        let rank = rank(drive);
+        self.of_drives[rank] = self.of_drives[rank].count_all(taken, retired);
     }
 }
 

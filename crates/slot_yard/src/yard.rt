@@ -1,18 +1,21 @@
 //! The slots that wait for their drives, and those that are retired.
 
-ghost use Rattle.std.specs.Prelude.{◌≡◌, ◌≤◌, ◌↔◌, [], ◌∷◌, ◌++◌, length, IsErr, IfOk, IfErr, OnOk, OnErr};
+ghost use Rattle.std.specs.Prelude.{◌≡◌, ◌+◌, ◌≤◌, ◌↔◌, true, [], ◌∷◌, ◌++◌, length, IsErr, IfOk, IfErr, OnOk, OnErr, vec_len, vec_capacity};
+ghost use Rattle.domains.specs.Cluster.{is_of};
 ghost use Rattle.slot_pool.specs.Places.{spot_of};
+ghost use Rattle.slot_pool.specs.Pools.{counted, IsPool};
+ghost use Rattle.slot_pool.specs.Tallies.{took};
 ghost use Rattle.slot_yard.specs.Slots.{IsOldest, IsPlaceOf, count_on as number_on, drive_of};
-ghost use Rattle.slot_yard.specs.Yards.{IsNewYard, IsYard, moved};
+ghost use Rattle.slot_yard.specs.Yards.{IsNewYard, IsYard, moved, without_drive};
 ghost use Rattle.slot_yard.specs.declared.counts.Move.TheVariants.{Put, Take, Retire};
 
 use crate::counts::Move;
-use crate::on_drive::{count_on, first_on};
+use crate::on_drive::{count_on, first_on, move_on};
 use crate::tallies::Tallies;
 use domains::{DriveId, Shape};
 use flex_io::Slot;
 use lists::List;
-use slot_pool::{Empty, Held};
+use slot_pool::{Empty, Held, Pool};
 use std::alloc::{AllocError, Global};
 use std::marker::Model;
 
@@ -122,6 +125,33 @@ impl<S: Slot + Send + Drop> Yard<S> {
         Ok(())
     }
 
+    /// Retires a drive with all the slots that are not out: the free ones of its pool, in the order in which `take` gives
+    /// them, and then those that wait, behind all that were retired before. It answers how many. A refusal moves none.
+    pub fn retire_drive(&mut self, pool: &mut Pool<S>) -> Result<u32, AllocError>
+        requires of { is_of self.old.shape pool.old.drive ≡ true }
+        requires slots { pool.old.slots ≤ self.old.shape.slots }
+        ensures value { IfOk result (λ count. count ≡ length pool.old.free + number_on S.place_of pool.old.drive self.old.waiting) }
+        ensures ok { OnOk result (self.new ≡ without_drive S.place_of pool.old.drive pool.old.free self.old) }
+        ensures taken { OnOk result (pool.new ≡ counted (took (length pool.old.free)) [] pool.old) }
+        ensures kept { OnErr result (self.new ≡ self.old) }
+        ensures untaken { OnErr result (pool.new ≡ pool.old) }
+        ensures yard { IsYard S.place_of self.new }
+        ensures pool { IsPool S.place_of pool.new }
+    {
+        let seat = self.seat;
+        let drive = pool.drive();
+        let waiting = count_on(&self.waiting, drive);
+        let count = pool.free_count() + waiting;
+        make_room(&mut self.retired, count)?;
+        let alloc = *self.retired.allocator();
+        let rest = Vec::with_capacity(alloc, self.waiting.len())?;
+        pool.take_all_into(&mut self.retired);
+        move_on(&mut self.waiting, drive, rest, &mut self.retired);
+        self.tallies
+            .count_all(seat, drive, u64::from(waiting), u64::from(count));
+        Ok(count)
+    }
+
     /// How many slots of the drive wait.
     pub fn count(&self, drive: DriveId) -> u32
         ensures value { result ≡ number_on S.place_of drive self.now.waiting }
@@ -165,4 +195,18 @@ fn append<S>(slots: &mut Vec<Held<S>>, held: Held<S>) -> Result<(), (AllocError,
         Ok(()) => Ok(()),
         Err(failed) => Err((AllocError, failed.value)),
     }
+}
+
+/// Makes room for so many slots more, where all together are no more than a cluster may have.
+fn make_room<S>(slots: &mut Vec<Held<S>>, more: u32) -> Result<(), AllocError>
+    requires { length slots.old.items ≤ 819200 }
+    ensures ok { OnOk result (vec_len slots.new + more ≤ vec_capacity slots.new) }
+    ensures few { OnOk result (length slots.new.items + more ≤ 819200) }
+    ensures same { slots.new.items ≡ slots.old.items }
+{
+    let more = more as usize;
+    if more > MOST_SLOTS - slots.len() {
+        return Err(AllocError);
+    }
+    slots.reserve(more)
 }

@@ -3,8 +3,9 @@ use Rattle.slot_pool.proofs.pool.take_down.Given as goal
 
 abbrev pub invariant-loop-slot : goal.invariant-loop-slot
 invariant-loop-slot g l = record {
-  turned : reverse l.initial.free.items ≡ l.room.items ++ reverse l.free.items;
-  fits : vec_len l.room + vec_len l.free ≤ vec_capacity l.room;
+  turned : l.initial.all.items ++ reverse l.initial.free.items ≡ l.all.items ++ reverse l.free.items;
+  fits : vec_len l.all + vec_len l.free ≤ vec_capacity l.all;
+  room : vec_capacity l.all ≡ vec_capacity l.initial.all;
   capacity : vec_capacity l.free ≡ vec_capacity l.initial.free;
 }
 
