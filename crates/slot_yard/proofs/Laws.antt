@@ -230,15 +230,15 @@ module _ {S : Type 0} where
       → counts_of d (tally_at new.tallies number) ≡ count_one what (counts_of d (tally_at last.tallies number))
   counts_known place_of what = counts_known_by place_of (count_one what)
 
-  -- the same where the turn retired the drive, of whose pool these slots were free
-  pub counts_retired : (place_of : S → RawPlace) (d : Drive) (free : List S) (last x y new : YardView S) (number : ℕ)
+  -- the same where the turn retired so many slots with the drive, of whose pool these were free
+  pub counts_retired : (place_of : S → RawPlace) (d : Drive) (free : List S) (count : ℕ) (last x y new : YardView S) (number : ℕ)
       → numbers_of (tally_at x.tallies number) ≡ numbers_of (tally_at last.tallies number) → y ≡ record x { seat = number }
-      → new ≡ without_drive place_of d free y → IsYard place_of new → is_of x.shape d ≡ true
-      → counts_of d (tally_at new.tallies number)
-      ≡ count_all (count_on place_of d x.waiting) (length free + count_on place_of d x.waiting) (counts_of d (tally_at last.tallies number))
-  counts_retired place_of d free last x y new number same begins retired_is is of =
-      let waited = count_on place_of d x.waiting in
-      let rest = slots_beside place_of d x.waiting in
-      let gone = x.retired ++ reverse free ++ slots_on place_of d x.waiting in
-      counts_known_by place_of (count_all waited (length free + waited)) d rest gone last x y new number same begins
-      (retired_is ∙ ap (without_drive place_of d free) begins ∙ sym (ap (moved_by (count_all waited (length free + waited)) d rest gone) begins)) is of
+      → count ≡ length free + count_on place_of d y.waiting → new ≡ without_drive place_of d free y → IsYard place_of new → is_of x.shape d ≡ true
+      → counts_of d (tally_at new.tallies number) ≡ count_all (count - length free) count (counts_of d (tally_at last.tallies number))
+  counts_retired place_of d free count last x y new number same begins count_is retired_is is of =
+      let waited = count_on place_of d y.waiting in
+      let known = counts_known_by place_of (count_all waited (length free + waited)) d (slots_beside place_of d y.waiting)
+      (y.retired ++ reverse free ++ slots_on place_of d y.waiting) last x y new number same begins retired_is is of in
+      let taken : waited ≡ count - length free = omega (arith, count_is) in
+      known ∙ (ap (λ (n : ℕ). count_all n (length free + waited) (counts_of d (tally_at last.tallies number))) taken
+      ∙ ap (λ (n : ℕ). count_all (count - length free) n (counts_of d (tally_at last.tallies number))) (sym count_is))

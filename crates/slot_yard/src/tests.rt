@@ -3,8 +3,11 @@ mod slots;
 mod turns;
 
 use self::race::{abandon, add, discard, open, race};
-use self::slots::{place_of, pool_of, put_next, retire_next, small, spend_all};
-use self::turns::take_in_turn;
+use self::slots::{
+    place_of, places_of, pool_of, pool_with, put_next, retire_drive, retire_next, small, spend_all,
+    wide,
+};
+use self::turns::{retire_in_turn, take_in_turn};
 use crate::{Yard, YardParts};
 use domains::DriveId;
 use flex_io::SurePiece;
@@ -75,6 +78,54 @@ fn retired_slots_stay_in_their_order(rt: HostRuntime) -> Result<(), Fail> {
         spend_all(retired),
         [Some((1, 2, 1)), Some((2, 1, 0)), Some((1, 2, 0))]
     );
+    Ok(())
+}
+
+#[test]
+fn a_retired_drive_leaves_no_slot_behind(rt: HostRuntime) -> Result<(), Fail> {
+    let gone = DriveId::new(1, 1);
+    let mut pool = pool_with(rt.alloc(), gone, 5)?;
+    let mut other = pool_of(rt.alloc(), DriveId::new(2, 2))?;
+    let mut yard = Yard::new(rt.alloc(), wide())?;
+    assert_eq!(rt; pool.take().map(place_of), Ok((1, 1, 0)));
+    let moved = [
+        put_next(&mut yard, &mut other),
+        put_next(&mut yard, &mut pool),
+        retire_next(&mut yard, &mut other),
+        put_next(&mut yard, &mut pool),
+        put_next(&mut yard, &mut other),
+    ];
+    assert_eq!(rt; moved, [true; 5]);
+    let retired = [
+        retire_drive(&mut yard, &mut pool),
+        retire_drive(&mut yard, &mut pool),
+    ];
+    assert_eq!(rt; retired, [Some(4), Some(0)]);
+    assert_eq!(rt; (pool.free_count(), yard.count(gone)), (0, 0));
+    let YardParts { yard, retired } = yard.close();
+    let waiting = places_of(rt.alloc(), yard);
+    let retired = places_of(rt.alloc(), retired)?;
+    assert_eq!(rt; waiting?.as_slice(), [(2, 2, 0), (2, 2, 2)].as_slice());
+    assert_eq!(rt;
+        retired.as_slice(),
+        [(2, 2, 1), (1, 1, 3), (1, 1, 4), (1, 1, 1), (1, 1, 2)].as_slice()
+    );
+    Ok(())
+}
+
+#[test]
+fn a_drive_is_retired_in_one_turn(rt: HostRuntime) -> Result<(), Fail> {
+    let mut pool = pool_of(rt.alloc(), DriveId::new(1, 2))?;
+    let (cell, mut seats) = open(rt.alloc())?;
+    let Some(mut one) = seats.pop() else {
+        unreachable!()
+    };
+    let Some(zero) = seats.pop() else {
+        unreachable!()
+    };
+    let retired = retire_in_turn(&rt, &cell, &mut one, &mut pool);
+    abandon(cell, seats, zero, one);
+    assert_eq!(rt; (retired, pool.free_count()), (Ok(3), 0));
     Ok(())
 }
 

@@ -9,13 +9,20 @@ use domains::{DriveId, Shape};
 use flex_io::{Fault, Rack, Slot, SurePiece, SureRack};
 use lists::List;
 use slot_pool::{Held, Pool};
-use std::alloc::Global;
+use std::alloc::{AllocError, Global};
 
 /// Two nodes of two drives with three slots each.
 pub fn small() -> Shape
     ensures { result ≡ record { nodes = 2; drives = 2; slots = 3; unit = 8 } }
 {
     Shape::new(2, 2, 3, 8)
+}
+
+/// Two nodes of two drives with five slots each.
+pub fn wide() -> Shape
+    ensures { result ≡ record { nodes = 2; drives = 2; slots = 5; unit = 8 } }
+{
+    Shape::new(2, 2, 5, 8)
 }
 
 /// The slots of a drive, in the order of their numbers.
@@ -40,7 +47,16 @@ pub fn pool_of(alloc: Global, drive: DriveId) -> Result<Pool<SurePiece>, Fault>
     ensures drive { IfOk result (λ pool. pool.drive ≡ drive) }
     ensures slots { IfOk result (λ pool. pool.slots ≡ 3) }
 {
-    let slots = slots_of(alloc, &mut SureRack::new(alloc), drive, 3)?;
+    pool_with(alloc, drive, 3)
+}
+
+/// A pool of so many slots of the drive.
+pub fn pool_with(alloc: Global, drive: DriveId, count: u16) -> Result<Pool<SurePiece>, Fault>
+    requires { count ≤ 4096 }
+    ensures drive { IfOk result (λ pool. pool.drive ≡ drive) }
+    ensures slots { IfOk result (λ pool. pool.slots ≡ count) }
+{
+    let slots = slots_of(alloc, &mut SureRack::new(alloc), drive, count)?;
     match Pool::new(alloc, drive, slots) {
         Ok(pool) => Ok(pool),
         Err(_refused) => Err(Fault::NoMemory),
@@ -87,10 +103,40 @@ pub fn retire_next(yard: &mut Yard<SurePiece>, pool: &mut Pool<SurePiece>) -> bo
     }
 }
 
+/// Retires the pool's drive, and tells how many slots are retired.
+pub fn retire_drive(yard: &mut Yard<SurePiece>, pool: &mut Pool<SurePiece>) -> Option<u32>
+    requires of { is_of yard.old.shape pool.old.drive ≡ true }
+    requires slots { pool.old.slots ≤ yard.old.shape.slots }
+    ensures shape { yard.new.shape ≡ yard.old.shape }
+    ensures drive { pool.new.drive ≡ pool.old.drive }
+    ensures slots { pool.new.slots ≡ pool.old.slots }
+{
+    match yard.retire_drive(pool) {
+        Ok(count) => Some(count),
+        Err(AllocError) => None,
+    }
+}
+
 /// The node, the drive and the number of a slot, which is spent.
 pub fn place_of(held: Held<SurePiece>) -> (u8, u8, u16) {
     let at = held.spend().place();
     (at.node, at.drive, at.slot)
+}
+
+/// The places of all slots, in their order. All slots are spent.
+pub fn places_of(
+    alloc: Global,
+    all: List<Held<SurePiece>>,
+) -> Result<Vec<(u8, u8, u16)>, AllocError> {
+    let mut all = all.into_vec();
+    all.reverse();
+    let mut places = Vec::new(alloc);
+    let mut refused = false;
+    while let Some(held) = all.pop() {
+        refused |= places.push(place_of(held)).is_err();
+    }
+    all.destroy_empty();
+    if refused { Err(AllocError) } else { Ok(places) }
 }
 
 /// The places of up to three slots, from the last. All slots are spent.
