@@ -1,5 +1,5 @@
 -- What comes back to the rack is what the logs say.
-use Rattle.std.proofs.Common.{◌≡◌, ℕ, ◌+◌, ◌≤◌, ◌==◌, Bool, true, false, ◌&&◌, cond, List, [], ◌∷◌, ◌++◌, length, map, count_by, Option, None, Some, IfSome, IsSome, is_none, refl, sym, ap, subst, ◌∙◌, arith, append-nil, append_assoc}
+use Rattle.std.proofs.Common.{◌≡◌, ℕ, ◌+◌, ◌==◌, Bool, true, false, ◌&&◌, cond, List, [], ◌∷◌, ◌++◌, length, map, count_by, Option, None, Some, IfSome, IsSome, is_none, refl, sym, ap, subst, ◌∙◌, arith, append-nil, append_assoc}
 use Rattle.std.specs.List.{AllByRecursion}
 use Rattle.std.proofs.lemmas.Bool.{eq-eqb}
 use Rattle.std.proofs.lemmas.List.{map-append}
@@ -11,27 +11,27 @@ use Rattle.domains.specs.Cluster.{Cluster}
 use Rattle.domains.specs.Level.{two_copies}
 use Rattle.domains.specs.declared.group.Group.{Group}
 use Rattle.board_log.specs.Board.{up_after}
-use Rattle.board_log.specs.declared.entry.BoardEntry.{BoardEntry}
 use Rattle.file_core.proofs.Orders.{same_drive-refl}
+use Rattle.file_core.specs.World.{world_of}
 use Rattle.file_core.specs.Bytes.{bytes_after}
 use Rattle.file_core.specs.Layout.{Layout, layout_after, group_list}
 use Rattle.file_core.specs.Slots.{spot_of, count_at, Tell, content_at}
 use Rattle.file_core.specs.FreeOrder.{AreInOrder, AreKeptInOrder}
-use Rattle.file_core.specs.Stored.{AreHeld, HoldsGroup, HoldsGroups, SpellsInode, IsStored}
-use Rattle.file_core.specs.Plain.{Shelves, Holding, AllTell, count_all}
+use Rattle.file_core.specs.Stored.{AreHeld, HoldsGroups, SpellsInode, IsStored}
+use Rattle.file_core.specs.Plain.{Shelves, Holding, AllTell}
 use Rattle.file_core.specs.declared.entry.Told.{Told}
 use Rattle.scenarios.specs.declared.op.Op.{Op}
 use Rattle.scenarios.specs.declared.scenario.FileDecl.{FileDecl}
 use Rattle.scenarios.specs.declared.scenario.Scenario.{Scenario}
 use Rattle.scenario_text.specs.FirstForm.{IsFirstForm}
 use Rattle.report.specs.Script.{all_told}
-use Rattle.report.specs.declared.logs.Logs.{Logs}
+use Rattle.flex_run.specs.Retired.{retired_places}
 use Rattle.flex_run.specs.StockOrder.{stock_order, spots_of, told_or_none, returned_of, PutsBack}
-use Rattle.flex_run.specs.Standing.{entries_of, HasLogs, AreLost, Leaves}
-use Rattle.flex_run.specs.Back.{spots_back, returned_at, IsFileBack, AreFilesBack, IsBack, BringsBack}
+use Rattle.flex_run.specs.Standing.{entries_of, HasLogs, Leaves}
+use Rattle.flex_run.specs.Back.{spots_back, returned_at, all_retired, IsFileBack, AreFilesBack, IsBack, BringsBack}
 use Rattle.flex_run.proofs.Places.{count_at-stock, count_by-map}
 use Rattle.flex_run.proofs.StockInOrder.{stock_in_order}
-use Rattle.flex_run.proofs.Starts.{new_file, new_stock, AllTell-form}
+use Rattle.flex_run.proofs.Starts.{new_file, new_stock, AllTell-start, AllTell-form}
 use Rattle.flex_run.proofs.Runs.{logs_of, all_told-entries}
 
 abbrev one : Bool → ℕ
@@ -159,9 +159,10 @@ module _ {S : Type 0} (place_of : S → RawPlace) (content : S → Option (List 
   IsBack-run : (s : Scenario) (script : List Op) (tell : Type 0) (slots : List S) (room spare : ℕ) (g : Holding S) (next : Shelves S) → IsFirstForm s
       → HasLogs tell s script next.board g.log
       → Leaves place_of content s.shape (new_file s.shape) (new_stock s.shape slots room spare) g next
-      → spots_of place_of slots ≡ stock_order s.shape → AllTell content g next
+      → spots_of place_of slots ≡ stock_order s.shape → AllTell content (new_file s.shape) (new_stock s.shape slots room spare)
       → IsBack (logs_of s next.board g.log) (returned_of place_of content (g.units ++ (g.inode ++ (next.retired ++ next.free))))
-  IsBack-run s script tell slots room spare g next form logs left order told =
+  IsBack-run s script tell slots room spare g next form logs left order start =
+      let told = left.tell start in
       let shape_same : g.shape.unit ≡ s.shape.unit = ap (λ (c : Cluster). c.unit) left.file_shape in
       let units = returned_of place_of content g.units in
       let inode = returned_of place_of content g.inode in
@@ -198,6 +199,12 @@ module _ {S : Type 0} (place_of : S → RawPlace) (content : S → Option (List 
         lost = subst (λ (l : List Spot). AllByRecursion (λ (x : Spot). up_after s.shape next.board (length next.board) x.drive ≡ false) l) (sym (spots_same next.retired))
             (lost_all (λ x. up_after s.shape next.board (length next.board) x.drive) next.retired
             (λ x up. left.lost x (ap (λ (c : Cluster). up_after c next.board (length next.board) x.drive) left.stock_shape ∙ up)));
+        of_logs = λ x.
+            spots_counted (same_spot x) next.retired ∙ left.retired start x
+            ∙ ap (λ (c : Cluster). count_by (same_spot x) (retired_places (world_of c next.board two_copies) g.log)) left.stock_shape
+            ∙ ap (λ (log : List Told). count_by (same_spot x) (retired_places (world_of s.shape next.board two_copies) log)) (sym (all_told-entries g.log s logs.told))
+            ∙ ap (λ (places : List Spot). count_by (same_spot x) places) (sym (append-nil (retired_places (world_of s.shape next.board two_copies) (all_told s (entries_of g.log)))))
+            ∙ ap (λ (fs : List FileDecl). count_by (same_spot x) (all_retired fs (entries_of g.log ∷ []) s next.board)) (sym form.files);
         in_order = subst AreInOrder (sym (spots_same next.free)) (left.ordered (kept_at_start slots s.shape room spare order)).free;
         each = λ p.
             let counted = spots_counted p (g.units ++ (g.inode ++ (next.retired ++ next.free))) in
@@ -224,5 +231,6 @@ module _ {S : Type 0} (place_of : S → RawPlace) (content : S → Option (List 
       (subst (λ (k : Holding S). Leaves place_of content s.shape k stock g next) is_file left) in (
         returned_of place_of content (g.units ++ (g.inode ++ (next.retired ++ next.free))),
         puts (Tell-append g.units _ all.units (Tell-append g.inode _ all.inode (Tell-append next.retired next.free all.retired all.free))),
-        IsBack-run s script tell slots stock.room stock.spare g next form logs from order all,
+        IsBack-run s script tell slots stock.room stock.spare g next form logs from order
+            (AllTell-start content slots s.shape stock.room stock.spare (told refl)),
       )

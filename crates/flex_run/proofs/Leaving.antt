@@ -1,21 +1,35 @@
 -- What operations leave of a file and its stock, one after the other.
-use Rattle.std.proofs.Common.{◌≡◌, ℕ, ◌+◌, Bool, true, false, not, ◌&&◌, List, [], ◌∷◌, ◌++◌, length, Option, None, Some, refl, sym, ap, subst, ◌∙◌, arith}
+use Rattle.std.proofs.Common.{◌≡◌, ℕ, ◌+◌, ◌≤◌, List, [], ◌∷◌, ◌++◌, length, Option, refl, sym, ap, subst, ◌∙◌, arith}
+use Rattle.std.specs.List.{AllByRecursion}
 use Rattle.std.proofs.lemmas.Bool.{and_parts}
 use Rattle.flex_io.specs.declared.raw_place.RawPlace.{RawPlace}
-use Rattle.domains.specs.Drive.{Drive, Spot, same_drive, same_spot}
+use Rattle.domains.specs.Drive.{Drive, Spot, same_spot}
 use Rattle.domains.specs.Cluster.{Cluster}
+use Rattle.domains.specs.Level.{two_copies}
 use Rattle.domains.specs.declared.by.By.{By}
 use Rattle.board_log.specs.Board.{up_after}
 use Rattle.board_log.specs.declared.entry.BoardEntry.{BoardEntry}
-use Rattle.file_core.specs.Slots.{count_at}
-use Rattle.file_core.specs.Plain.{Shelves, Holding, AllTell, Keeps, count_all}
+use Rattle.file_core.specs.World.{World, world_of, moment_at}
+use Rattle.file_core.specs.Layout.{Layout, empty_layout, layout_after, all_groups, places_of}
+use Rattle.file_core.specs.Step.{IsEvent}
+use Rattle.file_core.specs.Slots.{spot_of, count_at}
+use Rattle.file_core.specs.Plain.{Shelves, Holding, AllTell, Keeps, OneEach, plain_payload}
+use Rattle.file_core.specs.declared.entry.FileEvent.{FileEvent}
+use Rattle.file_core.specs.declared.entry.Told.{Told}
 use Rattle.file_core.specs.declared.plain.op.PlainOp.{PlainOp}
 use Rattle.file_core.proofs.Orders.{up_after-fail}
 use Rattle.scenarios.specs.declared.op.Op.{Op}
 use Rattle.scenarios.specs.declared.op.Op.TheVariants as op
 use Rattle.flex_run.specs.Play.{DoesPlain, DoesFail, Does, fail_entry}
-use Rattle.flex_run.specs.Standing.{AreLost, Leaves}
+use Rattle.flex_run.specs.Retired.{retired_places}
+use Rattle.flex_run.specs.Standing.{AreRetired, Leaves}
+use Rattle.flex_run.proofs.Places.{count_by-map}
 use Rattle.flex_run.proofs.Starts.{new_file, new_stock}
+use Rattle.flex_run.proofs.Retiring.{layout_from-push, retired_from-append, times, times-all, times-push, retires, no_more}
+
+-- the board has reached the epoch of each entry
+abbrev pub AreReached : List BoardEntry → List Told → Type 0
+AreReached board log = AllByRecursion (λ (t : Told). t.entry.epoch ≤ length board) log
 
 module _ {S : Type 0} (place_of : S → RawPlace) (content : S → Option (List ℕ)) where
   -- a new file is stored in no slot
@@ -34,6 +48,7 @@ module _ {S : Type 0} (place_of : S → RawPlace) (content : S → Option (List 
     stock_shape = refl;
     keeps = Keeps-new shape;
     lost = λ s up. refl;
+    retired = λ told s. refl;
     conserved = λ p. refl;
     tell = λ told. told;
     ordered = λ kept. kept;
@@ -46,10 +61,49 @@ module _ {S : Type 0} (place_of : S → RawPlace) (content : S → Option (List 
       (subst (λ (k : Holding S). Leaves place_of content shape k (new_stock shape slots stock.room stock.spare) k (new_stock shape slots stock.room stock.spare)) (sym is_file)
       (Leaves-new shape slots stock.room stock.spare))
 
-  Leaves-plain : (shape : Cluster) (o : PlainOp) (by : By) (told : Type 0) (f : Holding S) (stock : Shelves S) (g : Holding S) (now : Shelves S) (h : Holding S) (next : Shelves S)
-      → Leaves place_of content shape f stock g now → DoesPlain place_of content by o told g now h next → (AllTell content g now → AllTell content h next)
+  -- the slots of a file stand at the places of its layout
+  held : (f : Holding S) (s : Spot) → Keeps place_of content f
+      → count_at place_of (same_spot s) f.units + count_at place_of (same_spot s) f.inode ≡ times s (places_of (all_groups (layout_after two_copies f.log)))
+  held f s keeps =
+      let units = count_by-map (same_spot s) (λ x. spot_of (place_of x)) f.units ∙ ap (λ (l : List Spot). times s l) keeps.units in
+      let inode = count_by-map (same_spot s) (λ x. spot_of (place_of x)) f.inode ∙ ap (λ (l : List Spot). times s l) keeps.inode in
+      let all = times-all s (layout_after two_copies f.log) in
+      omega (arith, units, inode, all)
+
+  -- a plain operation retires the places that its entry does
+  AreRetired-plain : (o : PlainOp) (by : By) (g : Holding S) (now : Shelves S) (h : Holding S) (next : Shelves S)
+      → g.shape ≡ now.shape → Keeps place_of content g → OneEach place_of g now → AllTell content g now
+      → DoesPlain place_of content by o (AllTell content g now) g now h next → AreRetired place_of g now → AreRetired place_of h next
+  AreRetired-plain o by g now h next shape keeps one_each tell does before s =
+      let event : FileEvent = does.plays.event in
+      let t : Told = record { entry = record { by = by; epoch = length now.board; event = event }; payload = plain_payload o } in
+      let l : Layout = layout_after two_copies g.log in
+      let world : World = world_of now.shape now.board two_copies in
+      let grown : h.log ≡ g.log ++ t ∷ [] = does.plays.log ∙ ap (λ (u : Told). g.log ++ u ∷ []) does.plays.is_told in
+      let legal : IsEvent (moment_at world (length now.board)) g.log l (plain_payload o) event =
+      subst (λ (c : Cluster). IsEvent (moment_at (world_of c now.board two_copies) (length now.board)) g.log l (plain_payload o) event) shape (does.plays.legal tell) in
+      let was = held g s keeps in
+      let is = held h s does.keeps ∙ ap (λ (log : List Told). times s (places_of (all_groups (layout_after two_copies log)))) grown
+      ∙ ap (λ (m : Layout). times s (places_of (all_groups m))) (layout_from-push g.log t two_copies (empty_layout two_copies)) in
+      let same = does.conserved (same_spot s) in
+      let once = one_each s in
+      let step = retires s world l t (count_at place_of (same_spot s) now.retired) (count_at place_of (same_spot s) next.retired) (does.sorted.up s)
+      (λ off.
+      let free = does.sorted.lost s off in
+      (omega (arith, was, is, same, free), no_more s (moment_at world (length now.board)) l off two_copies g.log (plain_payload o) o event does.plays.answers legal))
+      (omega (arith, was, once)) in
+      let more = times-push s world g.log t in
+      let start = before s in
+      let made : count_at place_of (same_spot s) next.retired ≡ times s (retired_places world (g.log ++ t ∷ [])) = omega (arith, step, more, start) in
+      made ∙ ap (λ (log : List Told). times s (retired_places world log)) (sym grown)
+      ∙ ap (λ (b : List BoardEntry). times s (retired_places (world_of now.shape b two_copies) h.log)) (sym does.board)
+      ∙ ap (λ (c : Cluster). times s (retired_places (world_of c next.board two_copies) h.log)) (sym does.stock_shape)
+
+  Leaves-plain : (shape : Cluster) (o : PlainOp) (by : By) (f : Holding S) (stock : Shelves S) (g : Holding S) (now : Shelves S) (h : Holding S) (next : Shelves S)
+      → OneEach place_of g now → Leaves place_of content shape f stock g now
+      → DoesPlain place_of content by o (AllTell content g now) g now h next → (AllTell content g now → AllTell content h next)
       → Leaves place_of content shape f stock h next
-  Leaves-plain shape o by told f stock g now h next left does tell = record {
+  Leaves-plain shape o by f stock g now h next one_each left does tell = record {
     file_shape = does.shape ∙ left.file_shape;
     stock_shape = does.stock_shape ∙ left.stock_shape;
     keeps = does.keeps;
@@ -59,14 +113,16 @@ module _ {S : Type 0} (place_of : S → RawPlace) (content : S → Option (List 
         ∙ ap (λ (b : List BoardEntry). up_after now.shape b (length b) s.drive) does.board in
         let before = sym same_up ∙ up in
         does.sorted.up s before ∙ left.lost s before;
+    retired = λ start.
+        AreRetired-plain o by g now h next (left.file_shape ∙ sym left.stock_shape) left.keeps one_each (left.tell start) does (left.retired start);
     conserved = λ p. does.conserved p ∙ left.conserved p;
     tell = λ start. tell (left.tell start);
     ordered = λ start. does.ordered (left.ordered start);
   }
 
   Leaves-fail : (shape : Cluster) (drive : Drive) (by : By) (f : Holding S) (stock : Shelves S) (g : Holding S) (now : Shelves S) (h : Holding S) (next : Shelves S)
-      → Leaves place_of content shape f stock g now → DoesFail by drive g now h next → Leaves place_of content shape f stock h next
-  Leaves-fail shape drive by f stock g now h next left does =
+      → AreReached now.board g.log → Leaves place_of content shape f stock g now → DoesFail by drive g now h next → Leaves place_of content shape f stock h next
+  Leaves-fail shape drive by f stock g now h next reached left does =
       let entry = fail_entry now.shape now.board by drive in
       let after : Shelves S = record now { board = now.board ++ entry ∷ [] } in
       let made : Leaves place_of content shape f stock g after = record {
@@ -76,6 +132,10 @@ module _ {S : Type 0} (place_of : S → RawPlace) (content : S → Option (List 
         lost = λ s up.
             let both = sym (up_after-fail now.shape now.board by entry.effect drive s.drive) ∙ up in
             left.lost s ((and_parts _ _ both).1);
+        retired = λ start s.
+            left.retired start s
+            ∙ ap (λ (places : List Spot). times s places)
+            (retired_from-append g.log now.shape two_copies now.board (entry ∷ []) (empty_layout two_copies) reached);
         conserved = left.conserved;
         tell = λ start. let told = left.tell start in record { units = told.units; inode = told.inode; free = told.free; retired = told.retired };
         ordered = λ start. let kept = left.ordered start in record { free = kept.free; inode = kept.inode };
@@ -84,10 +144,13 @@ module _ {S : Type 0} (place_of : S → RawPlace) (content : S → Option (List 
       (subst (λ (k : Holding S). Leaves place_of content shape f stock k after) (sym does.file_is) made)
 
   -- after one more operation
-  pub Leaves-more : (o : Op) (shape : Cluster) (by : By) (told : Type 0) (f : Holding S) (stock : Shelves S) (g : Holding S) (now : Shelves S) (h : Holding S) (next : Shelves S)
-      → Leaves place_of content shape f stock g now → Does o place_of content by told g now h next → (AllTell content g now → AllTell content h next)
+  pub Leaves-more : (o : Op) (shape : Cluster) (by : By) (f : Holding S) (stock : Shelves S) (g : Holding S) (now : Shelves S) (h : Holding S) (next : Shelves S)
+      → AreReached now.board g.log → OneEach place_of g now → Leaves place_of content shape f stock g now
+      → Does o place_of content by (AllTell content g now) g now h next → (AllTell content g now → AllTell content h next)
       → Leaves place_of content shape f stock h next
-  Leaves-more (op.Create file) shape by told f stock g now h next left does tell = Leaves-plain shape _ by told f stock g now h next left does tell
-  Leaves-more (op.WriteText file offset text) shape by told f stock g now h next left does tell = Leaves-plain shape _ by told f stock g now h next left does tell
-  Leaves-more (op.Read file offset len) shape by told f stock g now h next left does tell = Leaves-plain shape _ by told f stock g now h next left does tell
-  Leaves-more (op.Fail drive) shape by told f stock g now h next left does tell = Leaves-fail shape drive by f stock g now h next left does
+  Leaves-more (op.Create file) shape by f stock g now h next reached one_each left does tell = Leaves-plain shape _ by f stock g now h next one_each left does tell
+  Leaves-more (op.WriteText file offset text) shape by f stock g now h next reached one_each left does tell =
+      Leaves-plain shape _ by f stock g now h next one_each left does tell
+  Leaves-more (op.Read file offset len) shape by f stock g now h next reached one_each left does tell =
+      Leaves-plain shape _ by f stock g now h next one_each left does tell
+  Leaves-more (op.Fail drive) shape by f stock g now h next reached one_each left does tell = Leaves-fail shape drive by f stock g now h next reached left does

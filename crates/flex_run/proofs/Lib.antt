@@ -9,6 +9,8 @@ pub mod Places
 mod StockInOrder
 pub mod Doing
 pub mod Starts
+pub mod Retiring
+mod WorkedRetiring
 pub mod Leaving
 pub mod Runs
 pub mod Backs

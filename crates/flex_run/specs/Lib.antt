@@ -1,5 +1,6 @@
 pub mod Words
 pub mod StockOrder
+pub mod Retired
 pub mod Play
 pub mod Standing
 pub mod Stops

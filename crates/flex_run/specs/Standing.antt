@@ -21,6 +21,7 @@ use Rattle.scenarios.specs.declared.scenario.Scenario.{Scenario}
 use Rattle.scenario_text.specs.FirstForm.{IsLaterOp, write_count}
 use Rattle.report.specs.Script.{told_in, FitsScript, board_calls, file_calls, numbers_where, is_for_board, is_for_file, is_earlier}
 use Rattle.report.specs.Legal.{AreLegalOrders}
+use Rattle.flex_run.specs.Retired.{retired_places}
 use Rattle.flex_run.specs.Play.{slots_taken}
 
 -- the entries of a log without the bytes that their operations write
@@ -81,13 +82,19 @@ abbrev pub AreLost : {S : Type 0} → (S → RawPlace) → Shelves S → Type 0
 AreLost place_of stock =
     (s : Spot) → up_after stock.shape stock.board (length stock.board) s.drive ≡ true → count_at place_of (same_spot s) stock.retired ≡ 0
 
--- what some operations leave of a file and its stock: the file is stored, retired slots stand on lost drives, no slot was
--- lost or made, and free slots that were kept in order are so still
+-- the retired slots stand at the places that the file's log retires
+abbrev pub AreRetired : {S : Type 0} → (S → RawPlace) → Holding S → Shelves S → Type 0
+AreRetired place_of f stock =
+    (s : Spot) → count_at place_of (same_spot s) stock.retired ≡ count_by (same_spot s) (retired_places (world_of stock.shape stock.board two_copies) f.log)
+
+-- what some operations leave of a file and its stock: the file is stored, retired slots stand on lost drives and, where slots
+-- tell, at the places that the log retires, no slot was lost or made, and free slots that were kept in order are so still
 pub record Leaves {S : Type 0} (place_of : S → RawPlace) (content : S → Option (List ℕ)) (shape : Cluster) (f : Holding S) (stock : Shelves S) (g : Holding S) (next : Shelves S) : Type 0 where
   pub file_shape : g.shape ≡ shape
   pub stock_shape : next.shape ≡ shape
   pub keeps : Keeps place_of content g
   pub lost : AreLost place_of next
+  pub retired : AllTell content f stock → AreRetired place_of g next
   pub conserved : (p : Spot → Bool) → count_all place_of p g next ≡ count_all place_of p f stock
   pub tell : AllTell content f stock → AllTell content g next
   pub ordered : AreKeptInOrder place_of f stock → AreKeptInOrder place_of g next

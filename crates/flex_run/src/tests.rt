@@ -154,11 +154,14 @@ fn the_slot_of_a_lost_drive_comes_back_behind_the_file_s(rt: HostRuntime) -> Res
     );
     assert_eq!(rt; answer, 0);
     assert_eq!(rt; rack.back().len(), 9);
-    let retired = &rack.back()[4];
-    assert_eq!(rt;
-        (retired.place.node, retired.place.drive, retired.place.slot),
-        (2, 1, 0)
-    );
+    // The old inode's slot on 2/1 is retired, and the two slots of 2/1 that were never used are free.
+    let behind = [(2, 1, 0), (1, 1, 0), (2, 1, 2), (2, 1, 1), (3, 1, 2)];
+    for (slot, place) in rack.back()[4..].iter().zip(behind.iter()) {
+        assert_eq!(rt;
+            (slot.place.node, slot.place.drive, slot.place.slot),
+            *place
+        );
+    }
     Ok(())
 }
 

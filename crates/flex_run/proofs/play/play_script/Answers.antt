@@ -1,6 +1,7 @@
 use Rattle.std.proofs.Common.{◌+◌, ap}
 use Rattle.file_core.specs.Plain.{AllTell}
 use Rattle.flex_run.proofs.Doing.{turn}
+use Rattle.flex_run.proofs.Steps.{IsReached-all}
 use Rattle.flex_run.proofs.Leaving.{Leaves-more}
 use Rattle.flex_run.proofs.play.play_script.Goals as goal
 
@@ -14,7 +15,7 @@ loop-op-preserved g c =
     c.only_script-script.ensures c.loop-op-test.true c.op-item.is was.3 was.0 was.1 was.2.tell c.in_ok-play_op.ensures.does in (
       done.0,
       done.1,
-      Leaves-more g.S.Slot.place_of content c.op-item.result c.args.scenario.now.shape _ _ c.args.file.now c.args.stock.now c.loop-op.file c.loop-op.stock
-          c.play_op.new.file c.play_op.new.stock was.2 c.in_ok-play_op.ensures.does c.in_ok-play_op.ensures.tell,
+      Leaves-more g.S.Slot.place_of content c.op-item.result c.args.scenario.now.shape _ c.args.file.now c.args.stock.now c.loop-op.file c.loop-op.stock
+          c.play_op.new.file c.play_op.new.stock (IsReached-all c.loop-op.stock.board c.loop-op.file.log was.0.serial) was.1.one_each was.2 c.in_ok-play_op.ensures.does c.in_ok-play_op.ensures.tell,
       ap (λ n. n + 1) was.3,
     )
