@@ -1,5 +1,5 @@
 mod Counting
-mod Ranks
+pub mod Ranks
 mod Finding
 mod Moving
 mod Keeping

@@ -1,0 +1,63 @@
+//! Room for the seats of a fabric's cells once they come back.
+
+ghost use Rattle.std.specs.Prelude.{◌≡◌, ℕ, ◌<◌, length, Some, slice_get, vec_capacity};
+ghost use Rattle.fabric.specs.Rooms.{ChangeEach, HasSpare, TakesIn, TakesSeat};
+
+use board::Board;
+use flex_io::Slot;
+use slot_pool::Pool;
+use slot_yard::Yard;
+use std::alloc::Global;
+use turn_cell::Seat;
+
+/// Room for the seats of all cells, so that a close takes no memory. It is no part of the fabric: what holds seats is not
+/// shared between threads.
+#[derive(Drop)]
+pub(crate) struct Rooms<S: Slot + Send + Drop> {
+    pub(crate) board: Vec<Seat<Board>>,
+    pub(crate) yard: Vec<Seat<Yard<S>>>,
+    /// Node by node, and within a node drive by drive.
+    pub(crate) pools: Vec<Vec<Seat<Pool<S>>>>,
+}
+
+impl<S: Slot + Send + Drop> Rooms<S> {
+    /// No room, which takes no memory.
+    pub(crate) fn none(alloc: Global) -> Rooms<S> {
+        Rooms {
+            board: Vec::new(alloc),
+            yard: Vec::new(alloc),
+            pools: Vec::new(alloc),
+        }
+    }
+
+    /// Takes in the seats of one more hand.
+    pub(crate) fn take_in(
+        &mut self,
+        board: Seat<Board>,
+        yard: Seat<Yard<S>>,
+        pools: Vec<Seat<Pool<S>>>,
+    )
+        requires spare { HasSpare self.old }
+        requires many { length pools.items ≡ length self.old.pools.items }
+        ensures { TakesIn board yard pools.items self.old self.new }
+    {
+        self.board.push_reserved(board);
+        self.yard.push_reserved(yard);
+        take_each(&mut self.pools, pools);
+    }
+}
+
+/// Puts each seat into the room at its place.
+fn take_each<S: Slot + Send + Drop>(
+    rooms: &mut Vec<Vec<Seat<Pool<S>>>>,
+    mut seats: Vec<Seat<Pool<S>>>,
+)
+    requires many { length seats.items ≡ length rooms.old.items }
+    requires spare { (k : ℕ) (room : _) → slice_get rooms.old.items k ≡ Some room → length room.items < vec_capacity room }
+    ensures { ChangeEach TakesSeat seats.items rooms.old.items rooms.new.items }
+{
+    while let Some(seat) = seats.pop() {
+        let place = seats.len();
+        rooms[place].push_reserved(seat);
+    }
+}
