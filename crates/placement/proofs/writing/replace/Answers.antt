@@ -1,0 +1,23 @@
+-- A slot that failed is retired, and then another is drawn.
+use Rattle.std.proofs.Common.{◌∷◌, length, reverse, ap, ◌∙◌, arith}
+use Rattle.std.proofs.lemmas.List.{length-append}
+use Rattle.placement.proofs.writing.replace.Goals as goal
+
+pub returns-then-draw_one-clause-placed : goal.returns-then-draw_one-clause-placed
+returns-then-draw_one-clause-placed g c units start drawn same at placed =
+    c.draw_one.ensures.placed units start (c.set_aside.ensures.placed c.if-not-set_aside.false units start drawn same at placed)
+
+pub returns-else-draw_one-clause-no_room : goal.returns-else-draw_one-clause-no_room
+returns-else-draw_one-clause-no_room g c stopped =
+    let p = c.args.placing.now in
+    let none = c.draw_one.ensures.none c.if-draw_one.false in
+    let written = ap length (c.draw_one.ensures.written ∙ c.set_aside.ensures.written) in
+    let waiting = ap (λ xs. length (reverse xs)) (none.0 ∙ c.set_aside.ensures.waiting) in
+    let full = c.requires.full in
+    let now = length-append c.draw_one.new.placing.written.items (reverse c.draw_one.new.placing.waiting.items) in
+    let was = length-append p.written.items (c.args.held ∷ reverse p.waiting.items) in
+    record { short = omega (arith, written, waiting, full, now, was); none = none.1 }
+
+pub returns-else-draw_one-clause-so_far : goal.returns-else-draw_one-clause-so_far
+returns-else-draw_one-clause-so_far g c stopped units start drawn same at placed =
+    c.draw_one.ensures.placed units start (c.set_aside.ensures.placed c.if-not-set_aside.false units start drawn same at placed)

@@ -1,0 +1,9 @@
+pub mod Order
+pub mod Room
+pub mod OrderLaws
+pub mod Turns
+pub mod Examples
+pub mod Draws
+pub mod Searches
+pub mod Places
+pub mod Writing
