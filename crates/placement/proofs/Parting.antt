@@ -1,5 +1,5 @@
 -- What the hand did, once a slot that failed is retired.
-use Rattle.std.proofs.Common.{◌≡◌, ℕ, ◌+◌, ◌<◌, true, false, List, [], ◌∷◌, ◌++◌, reverse, refl, sym, ap, subst, ◌∙◌, arith}
+use Rattle.std.proofs.Common.{◌≡◌, ℕ, ◌+◌, true, false, List, [], ◌∷◌, ◌++◌, reverse, refl, sym, ap, subst, ◌∙◌, arith}
 use Rattle.std.specs.Prelude.{Option}
 use Rattle.std.specs.List.{All}
 use Rattle.std.proofs.lemmas.Bool.{or_from, or_parts}
@@ -7,6 +7,7 @@ use Rattle.std.proofs.lemmas.List.Elements.{All-push}
 use Rattle.std.proofs.lemmas.List.Sums.{sum_by-append, sum_by-cons}
 use Rattle.domains.specs.Cluster.{is_of}
 use Rattle.domains.specs.Drive.{Drive, same_drive}
+use Rattle.flex_io.specs.Faults.{HasRisen}
 use Rattle.flex_io.specs.declared.raw_place.RawPlace.{RawPlace}
 use Rattle.slot_pool.specs.Places.{spot_of}
 use Rattle.slot_yard.specs.Slots.{IsPlaceOf, count_on, drive_of, is_on}
@@ -39,11 +40,11 @@ count_on-midst place_of e xs ys x =
 module _ {S : Type 0} (place_of : S → RawPlace) (content : S → Option (List ℕ)) (len_of faults : S → ℕ) (t : Terms) (p new : Placing S) (held : S)
     (old : IsInOrder place_of t p (slots_with p held)) (is : IsAside place_of t p new held old) where
   pub parted : (units : List (List ℕ)) (start hand_old hand_new : Hand S) (drawn : S) → ((e : Drive) → is_of t.shape e ≡ true → seat_on t.shape hand_new e ≡ seat_on t.shape hand_old e)
-      → Loses t.shape (drive_of place_of held) hand_old hand_new → 0 < faults held
+      → Loses t.shape (drive_of place_of held) hand_old hand_new → HasRisen (faults drawn) (faults held)
       → place_of held ≡ place_of drawn → AtSeat t.shape (drive_of place_of drawn) (Takes place_of drawn) start hand_old
       → HasPlaced place_of content len_of faults t units p (slots_with p held) start hand_old
       → HasPlaced place_of content len_of faults t units new (slots_of new) start hand_new
-  parted units start hand_old hand_new drawn rests less failed same at has =
+  parted units start hand_old hand_new drawn rests less rose same at has =
       let d : Drive = drive_of place_of held in
       record {
         written = subst (λ (w : _). AreWritten place_of content len_of t.shape units start hand_new w.items) (sym is.written)
@@ -66,7 +67,7 @@ module _ {S : Type 0} (place_of : S → RawPlace) (content : S → Option (List 
               of_shape = gone-of place_of t p new held old;
               taken = seat-stays place_of t.shape _ _ start hand_old hand_new
                   (subst (λ x. seat_on t.shape hand_new (spot_of x).drive ≡ seat_on t.shape hand_old (spot_of x).drive) same (rests d (gone-of place_of t p new held old))) at;
-              failed = failed;
+              rose = rose;
             }));
         others = λ e of out unspent.
             let parts = or_parts (same_drive e d) _ (sym (now_spent place_of t p new held old is e) ∙ unspent) in

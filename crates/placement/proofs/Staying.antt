@@ -49,7 +49,7 @@ module _ {S : Type 0} (place_of : S → RawPlace) (shape : Cluster) (start old n
       taken =
           let drive : p.drive ≡ drive_of place_of has.drawn = ap (λ (x : Spot). x.drive) (sym has.place_is) ∙ drive_of-place place_of has.slot has.drawn has.place in
           seat-stays place_of shape _ _ start old new (subst (λ d. seat_on shape new d ≡ seat_on shape old d) drive (rests has.of_shape)) has.taken;
-      failed = has.failed;
+      rose = has.rose;
     }
 
     pub failures-stay : (failed : List Spot) → Rests (drives_in failed) → All (HasFailed place_of faults shape start old) failed

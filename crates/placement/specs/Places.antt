@@ -3,6 +3,7 @@ use Rattle.std.specs.Prelude.{◌≡◌, ℕ, ◌+◌, ◌<◌, Bool, true, fals
 use Rattle.std.specs.List.{All}
 use Rattle.domains.specs.Cluster.{Cluster, is_of}
 use Rattle.domains.specs.Drive.{Drive, Spot}
+use Rattle.flex_io.specs.Faults.{HasRisen}
 use Rattle.flex_io.specs.Slots.{Holds as HoldsBytes, StaysTold}
 use Rattle.flex_io.specs.declared.raw_place.RawPlace.{RawPlace}
 use Rattle.galois.specs.Codeword.{unit_at}
@@ -42,7 +43,7 @@ module _ {S : Type 0} (place_of : S → RawPlace) (content : S → Option (List 
   AreWritten shape units old new slots = (k : ℕ) (default : S) → k < length slots → IsWritten shape (unit_at units k) old new (slice_index_or slots k default)
 
 module _ {S : Type 0} (place_of : S → RawPlace) (faults : S → ℕ) where
-  -- the hand's seat at its drive took the slot of this place, which has failed
+  -- the hand's seat at its drive took the slot of this place, and then its count of faults rose
   pub record HasFailed (shape : Cluster) (old new : Hand S) (p : Spot) : Type 0 where
     pub drawn : S
     pub slot : S
@@ -50,7 +51,7 @@ module _ {S : Type 0} (place_of : S → RawPlace) (faults : S → ℕ) where
     pub place_is : spot_of (place_of slot) ≡ p
     pub of_shape : is_of shape p.drive ≡ true
     pub taken : AtSeat shape (drive_of place_of drawn) (Takes place_of drawn) old new
-    pub failed : 0 < faults slot
+    pub rose : HasRisen (faults drawn) (faults slot)
 
   -- what the hand's seats did beside taking the slots of a group: they found these drives empty and took these slots, which
   -- failed; at other drives they made no turn

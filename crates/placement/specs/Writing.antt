@@ -5,6 +5,7 @@ use Rattle.domains.specs.Cluster.{IsCluster, is_of}
 use Rattle.domains.specs.Drive.{Drive}
 use Rattle.domains.specs.DriveSet.{has}
 use Rattle.domains.specs.Room.{drives_on}
+use Rattle.flex_io.specs.Faults.{HasRisen}
 use Rattle.flex_io.specs.declared.raw_place.RawPlace.{RawPlace}
 use Rattle.slot_pool.specs.Places.{spot_of}
 use Rattle.slot_yard.specs.Slots.{IsPlaceOf, count_on, drive_of}
@@ -77,9 +78,9 @@ module _ {S : Type 0} (place_of : S → RawPlace) (content : S → Option (List 
   GoesOnFrom t units slot old new hand_old hand_new = (start : Hand S) → AtSeat t.shape (drive_of place_of slot) (Takes place_of slot) start hand_old
       → HasPlaced t units old (slots_with old slot) start hand_old → HasPlaced t units new (slots_of new) start hand_new
 
-  -- the same where this slot, which is the one that was drawn there, stands out of its place
+  -- the same where this slot, which is the one that was drawn there and whose count of faults rose since, stands out of its place
   abbrev pub GoesOnWith : Terms → List (List ℕ) → S → Placing S → Placing S → Hand S → Hand S → Type 0
-  GoesOnWith t units slot old new hand_old hand_new = (start : Hand S) (drawn : S) → place_of slot ≡ place_of drawn
+  GoesOnWith t units slot old new hand_old hand_new = (start : Hand S) (drawn : S) → place_of slot ≡ place_of drawn → HasRisen (faults drawn) (faults slot)
       → AtSeat t.shape (drive_of place_of drawn) (Takes place_of drawn) start hand_old
       → HasPlaced t units old (slots_with old slot) start hand_old → HasPlaced t units new (slots_of new) start hand_new
 

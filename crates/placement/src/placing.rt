@@ -1,6 +1,7 @@
 //! A group whose units are being written.
 
 ghost use Rattle.std.specs.Prelude.{◌≡◌, ℕ, List, true, false, IfOk, IfErr, ◌+◌, ◌<◌, ◌≤◌, length};
+ghost use Rattle.flex_io.specs.Faults.{HasRisen};
 ghost use Rattle.flex_io.specs.Slots.{Holds, StaysTold};
 ghost use Rattle.domains.specs.Drive.{Drive};
 ghost use Rattle.domains.specs.DriveSet.{has};
@@ -73,6 +74,7 @@ pub(crate) fn write<S: Slot>(mut held: Held<S>, unit: &[u8]) -> Result<Held<S>, 
     ensures place { IfOk result (λ written. S.place_of written ≡ S.place_of held) }
     ensures kept { IfErr result (λ refused. S.place_of refused.1 ≡ S.place_of held) }
     ensures failed { IfErr result (λ refused. refused.0 ≡ Fault.Failed → 0 < S.faults refused.1) }
+    ensures rose { IfErr result (λ refused. refused.0 ≡ Fault.Failed → HasRisen (S.faults held) (S.faults refused.1)) }
 {
     match held.slot().write(unit) {
         Ok(()) => Ok(held),

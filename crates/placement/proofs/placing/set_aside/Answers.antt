@@ -45,7 +45,7 @@ returns-in-Err-clause-in_order g c =
     c.place-place.ensures c.drive.ensures c.drive-2.ensures c.remove.ensures c.add.ensures refl refl refl refl c.push_reserved.ensures.items c.push_reserved.ensures.capacity)
 
 pub returns-in-Ok-clause-placed : goal.returns-in-Ok-clause-placed
-returns-in-Ok-clause-placed g c went units start drawn same at has =
+returns-in-Ok-clause-placed g c went units start drawn same rose at has =
     let place_of = g.S.Slot.place_of in
     let t = c.args.terms.now in
     let p = c.args.placing.now in
@@ -56,4 +56,4 @@ returns-in-Ok-clause-placed g c went units start drawn same at has =
     units start c.args.hand.now c.retire.new.hand drawn
     (subst (λ s. (e : Drive) → is_of s e ≡ true → seat_on s c.retire.new.hand e ≡ seat_on s c.args.hand.now e) c.requires.shape retired.pools)
     (subst (λ s. Loses s (drive_of place_of c.args.held) c.args.hand.now c.retire.new.hand) c.requires.shape c.in-Ok.ensures.less)
-    c.requires.failed same at has
+    rose same at has

@@ -4,8 +4,8 @@ use Rattle.std.proofs.lemmas.List.{length-append}
 use Rattle.placement.proofs.writing.replace.Goals as goal
 
 pub returns-then-draw_one-clause-placed : goal.returns-then-draw_one-clause-placed
-returns-then-draw_one-clause-placed g c units start drawn same at placed =
-    c.draw_one.ensures.placed units start (c.set_aside.ensures.placed c.if-not-set_aside.false units start drawn same at placed)
+returns-then-draw_one-clause-placed g c units start drawn same rose at placed =
+    c.draw_one.ensures.placed units start (c.set_aside.ensures.placed c.if-not-set_aside.false units start drawn same rose at placed)
 
 pub returns-else-draw_one-clause-no_room : goal.returns-else-draw_one-clause-no_room
 returns-else-draw_one-clause-no_room g c stopped =
@@ -19,5 +19,5 @@ returns-else-draw_one-clause-no_room g c stopped =
     record { short = omega (arith, written, waiting, full, now, was); none = none.1 }
 
 pub returns-else-draw_one-clause-so_far : goal.returns-else-draw_one-clause-so_far
-returns-else-draw_one-clause-so_far g c stopped units start drawn same at placed =
-    c.draw_one.ensures.placed units start (c.set_aside.ensures.placed c.if-not-set_aside.false units start drawn same at placed)
+returns-else-draw_one-clause-so_far g c stopped units start drawn same rose at placed =
+    c.draw_one.ensures.placed units start (c.set_aside.ensures.placed c.if-not-set_aside.false units start drawn same rose at placed)

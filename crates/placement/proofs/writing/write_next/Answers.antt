@@ -1,7 +1,8 @@
 -- The unit of the slot's position is written, or the slot leaves.
-use Rattle.std.proofs.Common.{◌≡◌, ℕ, List, ◌∷◌, length, reverse, refl, ap, subst, ◌∙◌, arith}
+use Rattle.std.proofs.Common.{rules, ◌≡◌, ℕ, List, ◌∷◌, length, reverse, refl, ap, subst, ◌∙◌, arith}
 use Rattle.std.proofs.lemmas.List.{length-append}
 use Rattle.std.proofs.lemmas.Result.{on_ok_weaker}
+use Rattle.flex_io.specs.Faults.{HasRisen}
 use Rattle.flex_io.specs.Slots.{Holds}
 use Rattle.galois.specs.Codeword.{unit_at}
 use Rattle.placement.specs.Writing.{GoesOnWith}
@@ -54,7 +55,8 @@ returns-in-Err-NoMemory-default-clause-in_order g c =
 
 pub returns-in-Err-Failed-default-clause-so_far : goal.returns-in-Err-Failed-default-clause-so_far
 returns-in-Err-Failed-default-clause-so_far g c stopped start at placed =
-    c.replace.ensures.so_far stopped c.args.units.now.units start c.args.held c.in-Err-Failed-default.ensures.kept at
+    let rose : HasRisen (g.S.Slot.faults c.args.held) (g.S.Slot.faults c.in-Err-Failed-default.held) = search rules in
+    c.replace.ensures.so_far stopped c.args.units.now.units start c.args.held c.in-Err-Failed-default.ensures.kept rose at
     (changed-placed g.S.Slot.place_of g.S.Slot.content g.S.Slot.len_of g.S.Slot.faults c.args.terms.now c.args.units.now.units start c.args.hand.now c.args.placing.now
     c.args.held c.in-Err-Failed-default.held c.in-Err-Failed-default.ensures.kept placed)
 
@@ -67,8 +69,9 @@ returns-in-Err-Failed-default-clause-placed g c =
     let t = c.args.terms.now in
     let p = c.args.placing.now in
     let kept = c.in-Err-Failed-default.ensures.kept in
+    let rose : HasRisen (faults c.args.held) (faults c.in-Err-Failed-default.held) = search rules in
     on_ok_weaker c.replace.result
     (λ (goes : (units : List (List ℕ)) → GoesOnWith place_of content len_of faults t units c.in-Err-Failed-default.held p c.replace.new.placing c.args.hand.now c.replace.new.hand)
-    start at placed. goes c.args.units.now.units start c.args.held kept at
+    start at placed. goes c.args.units.now.units start c.args.held kept rose at
     (changed-placed place_of content len_of faults t c.args.units.now.units start c.args.hand.now p c.args.held c.in-Err-Failed-default.held kept placed))
     c.replace.ensures.placed
