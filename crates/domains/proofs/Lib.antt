@@ -1,3 +1,6 @@
-mod Words
-pub mod Kept
+pub mod DriveLemmas
+pub mod ShapeLemmas
+pub mod CountLemmas
+mod DriveSetLemmas
+pub mod LossLemmas
 mod WorkedLevels

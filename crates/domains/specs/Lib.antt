@@ -1,5 +1,7 @@
+pub mod Counts
 pub mod Drive
-pub mod Cluster
+pub mod Place
+pub mod Shape
 pub mod Level
 pub mod DriveSet
 pub mod Room

@@ -2,7 +2,7 @@
 
 ghost use Rattle.std.specs.Prelude.{◌≡◌, ℕ, false, not, ◌&&◌, ◌||◌, ◌-◌, ◌^◌, ◌≤◌};
 ghost use Rattle.domains.specs.Drive.{Drive, IsDrive, same_drive};
-ghost use Rattle.domains.specs.Cluster.{is_of};
+ghost use Rattle.domains.specs.Shape.{is_of};
 ghost use Rattle.domains.specs.DriveSet.{has};
 
 use crate::drive::DriveId;
@@ -55,7 +55,7 @@ impl DriveSet {
     }
 }
 
-/// The word of a node whose first so many drives are in the set.
+/// The word of a node whose first `count` drives are in the set.
 fn first_drives(count: u8) -> u16
     requires { count ≤ 16 }
     ensures { result ≡ 2 ^ count - 1 }

@@ -1,7 +1,7 @@
 //! The requested protection level of a file.
 
 ghost use Rattle.std.specs.Prelude.{◌≡◌, ◌≢◌, ◌↔◌, ◌+◌, ◌*◌, ◌≤◌, IsTrue, IfOk, IfErr, Ok};
-ghost use Rattle.domains.specs.Level.{Row, IsLevel, Bears, two_copies, level_name};
+ghost use Rattle.domains.specs.Level.{Level, IsLevel, Bears, two_copies, level_name};
 
 use std::fmt;
 use std::marker::Model;
@@ -67,9 +67,9 @@ pub struct Level {
 pub struct NotALevel;
 
 impl Model for Level {
-    ghost use Rattle.domains.specs.Level.{Row, IsLevel};
+    ghost use Rattle.domains.specs.Level.{Level, IsLevel};
 
-    ghost Value = { Row };
+    ghost Value = { Level };
 
     ghost view = { λ l. record { w = l.w; m = l.m; k = l.k } };
 
@@ -96,13 +96,13 @@ impl Level {
     /// The level that a text names. Any text but the sixteen names, also one with a blank beside a name, is `NotALevel`.
     pub fn read(text: &str) -> Result<Level, NotALevel>
         ensures named { IfOk result (λ level. level_name level ≡ text.now) }
-        ensures every { (level : Row) → IsLevel level → level_name level ≡ text.now → result ≡ Ok level }
-        ensures refused { IfErr result (λ e. (level : Row) → IsLevel level → level_name level ≢ text.now) }
+        ensures every { (level : Level) → IsLevel level → level_name level ≡ text.now → result ≡ Ok level }
+        ensures refused { IfErr result (λ e. (level : Level) → IsLevel level → level_name level ≢ text.now) }
     {
         levels!(level_of, text)
     }
 
-    /// Whether a group at the level keeps its data where it loses any so many nodes and so many further drives
+    /// Whether a group at the level keeps its data after it loses any `nodes` nodes and any `drives` drives of others
     /// (docs/LEVELS.md; `laws::levels_bear_their_losses`).
     pub fn bears(&self, nodes: u8, drives: u8) -> bool
         ensures { IsTrue result ↔ Bears self.now nodes drives }

@@ -14,9 +14,9 @@ pub struct Place {
 
 impl Model for Place {
     ghost use Rattle.std.specs.Prelude.{◌<◌};
-    ghost use Rattle.domains.specs.Drive.{Spot};
+    ghost use Rattle.domains.specs.Place.{Place};
 
-    ghost Value = { Spot };
+    ghost Value = { Place };
 
     ghost view = { λ p. record { drive = p.drive; slot = p.slot } };
 

@@ -1,7 +1,7 @@
 //! How wide a group can be on the drives that are usable.
 
 ghost use Rattle.std.specs.Prelude.{◌≡◌, ℕ, ◌+◌, ◌*◌, ◌≤◌, ◌<◌, ◌↔◌, Some, IsOk, IfOk, IfErr, min};
-ghost use Rattle.domains.specs.Cluster.{Cluster};
+ghost use Rattle.domains.specs.Shape.{Shape};
 ghost use Rattle.domains.specs.DriveSet.{has};
 ghost use Rattle.domains.specs.Room.{drives_on, room_up_to, room_of, width_of};
 

@@ -1,7 +1,7 @@
 //! The shape of a cluster.
 
 ghost use Rattle.std.specs.Prelude.{◌≡◌, ◌≤◌};
-ghost use Rattle.domains.specs.Cluster.{Cluster, IsCluster, is_of};
+ghost use Rattle.domains.specs.Shape.{Shape, IsShape, is_of};
 
 use crate::drive::DriveId;
 use std::marker::Model;
@@ -16,13 +16,13 @@ pub struct Shape {
 }
 
 impl Model for Shape {
-    ghost use Rattle.domains.specs.Cluster.{Cluster, IsCluster};
+    ghost use Rattle.domains.specs.Shape.{Shape, IsShape};
 
-    ghost Value = { Cluster };
+    ghost Value = { Shape };
 
     ghost view = { λ s. record { nodes = s.nodes; drives = s.drives; slots = s.slots; unit = s.unit } };
 
-    ghost invariant = { λ s. IsCluster (record { nodes = s.nodes; drives = s.drives; slots = s.slots; unit = s.unit }) };
+    ghost invariant = { λ s. IsShape (record { nodes = s.nodes; drives = s.drives; slots = s.slots; unit = s.unit }) };
 
     ghost inverse = { λ c. record { nodes = c.nodes; drives = c.drives; slots = c.slots; unit = c.unit } };
 }
@@ -30,7 +30,7 @@ impl Model for Shape {
 impl Shape {
     /// The shape of these numbers, which are within the limits of docs/FORMATS.md, "Limits".
     pub fn new(nodes: u8, drives: u8, slots: u16, unit: u32) -> Shape
-        requires { IsCluster (record { nodes = nodes; drives = drives; slots = slots; unit = unit }) }
+        requires { IsShape (record { nodes = nodes; drives = drives; slots = slots; unit = unit }) }
         ensures { result ≡ record { nodes = nodes; drives = drives; slots = slots; unit = unit } }
     {
         Shape {
@@ -44,7 +44,7 @@ impl Shape {
     /// How many nodes there are: 1 to 32.
     pub fn nodes(self) -> u8
         ensures value { result ≡ self.nodes }
-        ensures within { IsCluster self }
+        ensures within { IsShape self }
     {
         self.nodes
     }
@@ -52,7 +52,7 @@ impl Shape {
     /// How many drives each node has: 1 to 16, and at most 200 in all.
     pub fn drives(self) -> u8
         ensures value { result ≡ self.drives }
-        ensures within { IsCluster self }
+        ensures within { IsShape self }
     {
         self.drives
     }
@@ -60,7 +60,7 @@ impl Shape {
     /// How many slots each drive has: 1 to 4,096.
     pub fn slots(self) -> u16
         ensures value { result ≡ self.slots }
-        ensures within { IsCluster self }
+        ensures within { IsShape self }
     {
         self.slots
     }
@@ -68,7 +68,7 @@ impl Shape {
     /// How many bytes a stripe unit has: 8 to 131,072.
     pub fn unit(self) -> u32
         ensures value { result ≡ self.unit }
-        ensures within { IsCluster self }
+        ensures within { IsShape self }
     {
         self.unit
     }

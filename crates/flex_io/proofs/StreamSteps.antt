@@ -18,7 +18,7 @@ Consumes-long None now bytes limit h long = tt
 Consumes-long (Some left) None bytes limit h long = absurd h
 Consumes-long (Some left) (Some rest) bytes limit h long = omega (arith, ap length h, length-append bytes rest)
 
--- the bytes up to `at`, and then so many of the rest, are a longer front
+-- the bytes up to `at`, and then some of the rest, are a longer prefix
 pub Appends-front : (first before now : Option (List ℕ)) (bytes : List ℕ) (at count : ℕ) → Appends first before (take at bytes)
     → Appends before now (take count (take (length bytes - at) (drop at bytes))) → Appends first now (take (at + count) bytes)
 Appends-front first before now bytes at count done more =

@@ -8,7 +8,7 @@ use Rattle.flex_io.specs.declared.streams.Input.TheVariants.{Whole, TooLong}
 abbrev pub ConsumesSome : Option (List ℕ) → Option (List ℕ) → Type 0
 ConsumesSome before now = (bytes : List ℕ) × Consumes before now bytes
 
--- a piece of so many bytes was taken and added to the bytes; where it is empty, none are left
+-- a piece of this length was taken and added to the bytes; where it is empty, none are left
 pub record AddsPiece (before now : Option (List ℕ)) (old new : List ℕ) (count : ℕ) : Type 0 where
   pub piece : List ℕ
   pub taken : Consumes before now piece

@@ -4,3 +4,4 @@ pub mod Racks
 pub mod Inputs
 pub mod SurePieces
 pub mod Calls
+pub mod RackCalls

@@ -1,5 +1,5 @@
 -- What came back to a rack.
-use Rattle.std.specs.Prelude.{◌≡◌, ℕ, List, [], ◌∷◌, ◌++◌, Option, None, Some, IsSome, ⊤}
+use Rattle.std.specs.Prelude.{◌≡◌, ℕ, List, [], ◌∷◌, ◌++◌, Option, None, Some, ⊤}
 use Rattle.flex_io.specs.declared.raw_place.RawPlace.{RawPlace}
 use Rattle.flex_io.specs.declared.rack.Returned.{Returned}
 
@@ -16,6 +16,12 @@ TakesBack (Some before) None place (Some bytes) = ⊥
 TakesBack (Some before) now place None = ⊤
 TakesBack None now place content = ⊤
 
--- a slot of a rack that tells what came back tells its content
-abbrev pub TellsToo : Option (List Returned) → Option (List ℕ) → Type 0
-TellsToo back content = IsSome back → IsSome content
+-- what came back to a rack in memory, and how many slots it gave and took back, each modulo 2^64
+pub record RackView : Type 0 where
+  pub back : List Returned
+  pub takes : ℕ
+  pub puts : ℕ
+
+-- a rack of which nothing was taken
+abbrev pub new_rack : RackView
+new_rack = record { back = []; takes = 0; puts = 0 }

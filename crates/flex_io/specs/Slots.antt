@@ -9,6 +9,6 @@ StaysTold before now = IsSome before → IsSome now
 abbrev pub Holds : Option (List ℕ) → List ℕ → Type 0
 Holds content bytes = IfSome content (λ told. told ≡ bytes)
 
--- the reads are one more at `Ok`, modulo 2^64, and as many at `Err`
-abbrev pub CountsRead : {T E : Type 0} → Result T E → ℕ → ℕ → Type 0
-CountsRead result before now = MatchResult result (λ _. now ≡ (before + 1) % 2 ^ 64) (λ _. now ≡ before)
+-- the count is one more at `Ok`, modulo 2^64, and as it was at `Err`
+abbrev pub CountsOk : {T E : Type 0} → Result T E → ℕ → ℕ → Type 0
+CountsOk result before now = MatchResult result (λ _. now ≡ (before + 1) % 2 ^ 64) (λ _. now ≡ before)

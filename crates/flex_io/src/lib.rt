@@ -1,9 +1,12 @@
 //! The devices at a run's edge: sources, sinks, slots on racks and gates, which count their faults.
 #![tactic(auto)]
 
+mod call_plan;
 mod fail_plan;
 mod fault;
 mod gate;
+mod memory_piece;
+mod memory_rack;
 mod memory_sink;
 mod memory_source;
 mod rack;
@@ -19,8 +22,11 @@ mod sure_rack;
 mod sure_sink;
 mod sure_source;
 
+pub use call_plan::{Fail, RackCall};
 pub use fault::{Failed, Fault};
 pub use gate::{Gate, OpenGate, Point};
+pub use memory_piece::MemoryPiece;
+pub use memory_rack::MemoryRack;
 pub use memory_sink::MemorySink;
 pub use memory_source::MemorySource;
 pub use rack::{Rack, Returned};

@@ -4,7 +4,7 @@ ghost use Rattle.std.specs.Prelude.{◌≡◌, ℕ, List, Option, ◌≤◌, len
 ghost use Rattle.std.specs.Result.{IsErrOf};
 ghost use Rattle.flex_io.specs.declared.raw_place.RawPlace.{RawPlace};
 ghost use Rattle.flex_io.specs.Faults.{HasRisen, HasCause};
-ghost use Rattle.flex_io.specs.Slots.{StaysTold, Holds, CountsRead};
+ghost use Rattle.flex_io.specs.Slots.{StaysTold, Holds, CountsOk};
 
 use crate::{Failed, Fault, RawPlace};
 
@@ -61,7 +61,7 @@ pub trait Slot {
         requires { length buf.old ≡ len_of self.old }
 
         ensures ok { OnOk result (Holds (content self.old) buf.new) }
-        ensures reads { CountsRead result (reads self.old) (reads self.new) }
+        ensures reads { CountsOk result (reads self.old) (reads self.new) }
 
         // What stays as it was.
         ensures content { content self.new ≡ content self.old }

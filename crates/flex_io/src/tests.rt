@@ -3,8 +3,9 @@
 ghost use Rattle.std.specs.Prelude.{◌≡◌, ℕ, List, Option, Some, ◌<◌, ◌≤◌, length, IsOk, IfOk};
 
 use crate::{
-    Failed, Fault, Gate, Input, MemorySink, MemorySource, OpenGate, Point, Rack, Sink, Slot,
-    Source, StdSink, StdSource, Steady, SureRack, SureSink, SureSource, read_up_to, write_all,
+    Fail as PlannedFail, Failed, Fault, Gate, Input, MemoryRack, MemorySink, MemorySource,
+    OpenGate, Point, Rack, RackCall, RawPlace, Sink, Slot, Source, StdSink, StdSource, Steady,
+    SureRack, SureSink, SureSource, read_up_to, write_all,
 };
 use lists::List;
 use std::alloc::{AllocError, Global};
@@ -136,6 +137,58 @@ fn a_slot_comes_back_with_its_place_and_bytes(rt: HostRuntime) -> Result<(), Fai
         (2, 1, 7)
     );
     assert_eq!(rt; back.bytes.as_slice(), b"hello\0\0\0".as_slice());
+    Ok(())
+}
+
+#[test]
+fn the_second_write_of_a_slot_fails_as_planned(rt: HostRuntime) -> Result<(), Fail> {
+    let alloc = rt.alloc();
+    let place = RawPlace {
+        node: 1,
+        drive: 1,
+        slot: 0,
+    };
+    let fails = [PlannedFail {
+        place,
+        call: RackCall::Write,
+        nth: 2,
+    }];
+    let mut rack = MemoryRack::new(alloc, List::from_vec(fails.to_vec(alloc)?));
+    let mut planned = rack.take((1, 1), 0)?;
+    let mut other = rack.take((1, 1), 1)?;
+    let answers = [
+        planned.write(b"a"),
+        other.write(b"a"),
+        planned.write(b"b"),
+        other.write(b"b"),
+        planned.write(b"c"),
+    ];
+    assert_eq!(rt;
+        answers,
+        [Ok(()), Ok(()), Err(Fault::Failed), Ok(()), Ok(())]
+    );
+    rack.put(planned)?;
+    assert_eq!(rt; rack.back()[0].bytes.as_slice(), b"c".as_slice());
+    rack.put(other)?;
+    Ok(())
+}
+
+#[test]
+fn a_rack_in_memory_fails_at_the_planned_take(rt: HostRuntime) -> Result<(), Fail> {
+    let alloc = rt.alloc();
+    let fails = [PlannedFail {
+        place: RawPlace {
+            node: 1,
+            drive: 2,
+            slot: 0,
+        },
+        call: RackCall::Take,
+        nth: 1,
+    }];
+    let mut rack = MemoryRack::new(alloc, List::from_vec(fails.to_vec(alloc)?));
+    assert!(rt; rack.take((1, 1), 0).is_ok());
+    assert!(rt; matches!(rack.take((1, 2), 0), Err(Fault::Failed)));
+    assert!(rt; rack.take((1, 2), 0).is_ok());
     Ok(())
 }
 

@@ -2,22 +2,20 @@
 use Rattle.std.specs.Prelude.{◌≡◌, ℕ, ◌+◌, ◌-◌, ◌/◌, ◌^◌, ◌<◌, ◌≤◌, if◌then◌else◌, List, [], ◌∷◌, ◌++◌, length, sum_by}
 use Rattle.std.specs.List.{AllByRecursion}
 use Rattle.std.specs.Int.{to_be_bytes, w16, w32, w64}
-use Rattle.domains.specs.Drive.{Spot, IsDrive}
-use Rattle.domains.specs.Level.{Row, IsLevel, named_levels, same_row}
-use Rattle.domains.specs.AtLevel.{AreApart}
+use Rattle.domains.specs.Drive.{AreApart}
+use Rattle.domains.specs.Place.{Place, IsPlace}
+use Rattle.domains.specs.Level.{Level, IsLevel, named_levels, same_level}
+use Rattle.domains.specs.AtLevel.{drives_of}
 use Rattle.domains.specs.declared.group.Group.{Group}
 use Rattle.inode_codec.specs.declared.inode.Inode.{Inode}
 
--- how many units of so many bytes hold this many bytes
+-- how many units of this length hold this many bytes
 abbrev pub units_for : ℕ → ℕ → ℕ
 units_for unit size = (size + (unit - 1)) / unit
 
 -- how many data units the groups have
 abbrev pub data_units : List Group → ℕ
 data_units groups = sum_by (λ (g : Group). g.n) groups
-
-abbrev pub IsSpot : Spot → Type 0
-IsSpot s = IsDrive s.drive × (s.slot < 4096)
 
 -- the group's numbers are within the limits of the format
 pub record IsInodeGroup (g : Group) : Type 0 where
@@ -28,8 +26,8 @@ pub record IsInodeGroup (g : Group) : Type 0 where
   pub more : g.m ≤ 7
   pub striped : 1 < g.n → g.m ≤ 4
   pub whole : length g.places ≡ g.n + g.m
-  pub places : AllByRecursion IsSpot g.places
-  pub apart : AreApart g.places
+  pub places : AllByRecursion IsPlace g.places
+  pub apart : AreApart (drives_of g.places)
 
 -- the generations differ
 abbrev pub AreGenerations : List Group → Type 0
@@ -47,19 +45,19 @@ pub record IsInode (i : Inode) : Type 0 where
   pub generations : AreGenerations i.groups
   pub sum : data_units i.groups ≡ units_for i.unit i.size
 
-abbrev code_from : ℕ → List (Row × List ℕ) → Row → ℕ
+abbrev code_from : ℕ → List (Level × List ℕ) → Level → ℕ
 code_from n [] level = n
-code_from n (named ∷ rest) level = if same_row named.0 level then n else code_from (n + 1) rest level
+code_from n (named ∷ rest) level = if same_level named.0 level then n else code_from (n + 1) rest level
 
 -- the place of a level in the table, from 0
-abbrev pub level_code : Row → ℕ
+abbrev pub level_code : Level → ℕ
 level_code level = code_from 0 named_levels level
 
 -- a place: its node, its drive, its slot
-unfoldable pub place_bytes : Spot → List ℕ
+unfoldable pub place_bytes : Place → List ℕ
 place_bytes s = s.drive.node ∷ s.drive.drive ∷ to_be_bytes w16 s.slot
 
-abbrev pub places_bytes : List Spot → List ℕ
+abbrev pub places_bytes : List Place → List ℕ
 places_bytes [] = []
 places_bytes (s ∷ ss) = place_bytes s ++ places_bytes ss
 

@@ -1,10 +1,10 @@
 -- The text of an operation, kind by kind.
 use Rattle.std.proofs.Common.{◌≡◌, ℕ, ◌<◌, ◌^◌, List, ◌∷◌, Result, Ok, Err, Option, Some, None, append_assoc, sym, ap, ◌∙◌, subst, refl, arith}
 use Rattle.domains.specs.Drive.{Drive, IsDrive}
-use Rattle.scenarios.specs.Words.{IsText}
-use Rattle.scenarios.specs.Ops.{op_text, drive_text}
-use Rattle.scenarios.specs.declared.op.Op.{Op}
-use Rattle.scenarios.specs.declared.op.Op.TheVariants.{Create, WriteText, Read, Fail}
+use Rattle.scenario.specs.Words.{IsText}
+use Rattle.scenario.specs.Ops.{op_text, drive_text}
+use Rattle.scenario.specs.declared.op.Op.{Op}
+use Rattle.scenario.specs.declared.op.Op.TheVariants.{Create, WriteText, Read, Fail}
 use Rattle.scenario_text.specs.declared.fault.Stop.{Stop}
 use Rattle.scenario_text.specs.declared.fault.Stop.TheVariants.{Unbuilt}
 use Rattle.scenario_text.specs.Answers.{Answers, only_file, FitsOp, text_of_create, text_of_read, text_of_write, text_of_fail}

@@ -1,9 +1,9 @@
 -- Scripts read from the front.
 use Rattle.std.proofs.Common.{◌≡◌, ℕ, ◌+◌, ◌<◌, ◌≤◌, length, get_or, drop, append_assoc, ◌∙◌, List, [], ◌∷◌, ◌++◌, Result, Ok, Err, true, refl, sym, ap, subst}
 use Rattle.toml.specs.Data.{Data, string, Items, no_items, item}
-use Rattle.scenarios.specs.Ops.{op_text}
-use Rattle.scenarios.specs.declared.op.Op.{Op}
-use Rattle.scenarios.specs.declared.scenario.FileDecl.{FileDecl}
+use Rattle.scenario.specs.Ops.{op_text}
+use Rattle.scenario.specs.declared.op.Op.{Op}
+use Rattle.scenario.specs.declared.scenario.FileDecl.{FileDecl}
 use Rattle.std.specs.List.{AllByRecursion}
 use Rattle.std.specs.Result.{IsErrAnd, OnOk, is_ok}
 use Rattle.std.proofs.lemmas.List.{drop_all, append-nil}

@@ -3,10 +3,10 @@ use Rattle.std.specs.Prelude.{codes, ◌++◌, ◌≡◌, ◌≢◌, ℕ, ◌<�
 use Rattle.std.specs.Fmt.{decimal}
 use Rattle.domains.specs.Drive.{Drive, IsDrive}
 use Rattle.domains.specs.Level.{two_copies}
-use Rattle.scenarios.specs.Words.{IsText}
-use Rattle.scenarios.specs.declared.op.Op.{Op}
-use Rattle.scenarios.specs.declared.op.Op.TheVariants.{Create, WriteText, Read, Fail}
-use Rattle.scenarios.specs.declared.scenario.FileDecl.{FileDecl}
+use Rattle.scenario.specs.Words.{IsText}
+use Rattle.scenario.specs.declared.op.Op.{Op}
+use Rattle.scenario.specs.declared.op.Op.TheVariants.{Create, WriteText, Read, Fail}
+use Rattle.scenario.specs.declared.scenario.FileDecl.{FileDecl}
 use Rattle.scenario_text.specs.declared.fault.Stop.{Stop}
 use Rattle.scenario_text.specs.declared.fault.Stop.TheVariants.{Unbuilt, NoMemory}
 

@@ -1,8 +1,8 @@
 -- What the reader answers where it reads no scenario.
 use Rattle.std.specs.Prelude.{◌≡◌, ℕ, List, [], ◌∷◌}
-use Rattle.domains.specs.Cluster.{Cluster}
-use Rattle.scenarios.specs.declared.op.Op.{Op}
-use Rattle.scenarios.specs.declared.scenario.Scenario.{Scenario}
+use Rattle.domains.specs.Shape.{Shape}
+use Rattle.scenario.specs.declared.op.Op.{Op}
+use Rattle.scenario.specs.declared.scenario.Scenario.{Scenario}
 use Rattle.scenario_text.specs.declared.fault.BadScenario.{BadScenario}
 use Rattle.scenario_text.specs.declared.fault.Rule.TheVariants.{Unbuilt}
 use Rattle.scenario_text.specs.declared.fault.ScenarioFault.{ScenarioFault}
@@ -16,10 +16,10 @@ abbrev pub unbuilt : BadScenario
 unbuilt = record { rule = Unbuilt; actor = 0; op = 0 }
 
 -- the fault is want of memory, or that the text spells no scenario of the first form
-abbrev pub IsRefusal : List ℕ → ScenarioFault → Type 0
-IsRefusal text (Bad bad) = (bad ≡ unbuilt) × ((s : Scenario) → Spells text s → IsFirstForm s → ⊥)
-IsRefusal text NoMemory = Unit {0}
+abbrev pub IsTextFault : List ℕ → ScenarioFault → Type 0
+IsTextFault text (Bad bad) = (bad ≡ unbuilt) × ((s : Scenario) → Spells text s → IsFirstForm s → ⊥)
+IsTextFault text NoMemory = Unit {0}
 
 -- the scenario of one worker, one file and one actor
-abbrev pub scenario_of_one : Cluster → List ℕ → List Op → Scenario
+abbrev pub scenario_of_one : Shape → List ℕ → List Op → Scenario
 scenario_of_one shape name script = record { shape = shape; workers = 1; files = only_file name; actors = script ∷ [] }

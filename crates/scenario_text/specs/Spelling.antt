@@ -3,10 +3,10 @@ use Rattle.std.specs.Prelude.{codes, ◌≡◌, ℕ, pos, Bool, false, if◌then
 use Rattle.toml.specs.Data.{string, integer, array, table, Items, no_items, item, Members, no_members, member}
 use Rattle.toml.specs.Parse.{parse_document}
 use Rattle.domains.specs.Level.{level_name}
-use Rattle.scenarios.specs.Ops.{op_text}
-use Rattle.scenarios.specs.declared.op.Op.{Op}
-use Rattle.scenarios.specs.declared.scenario.FileDecl.{FileDecl}
-use Rattle.scenarios.specs.declared.scenario.Scenario.{Scenario}
+use Rattle.scenario.specs.Ops.{op_text}
+use Rattle.scenario.specs.declared.op.Op.{Op}
+use Rattle.scenario.specs.declared.scenario.FileDecl.{FileDecl}
+use Rattle.scenario.specs.declared.scenario.Scenario.{Scenario}
 
 -- the bytes of a stripe unit, where the text does not say
 abbrev pub default_unit : ℕ

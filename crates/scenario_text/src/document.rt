@@ -1,7 +1,7 @@
 //! Reads a whole document.
 
 ghost use Rattle.std.specs.Prelude.{◌≡◌, ◌↔◌, IfOk, IfErr, Some};
-ghost use Rattle.scenarios.specs.declared.scenario.Scenario.{Scenario};
+ghost use Rattle.scenario.specs.declared.scenario.Scenario.{Scenario};
 ghost use Rattle.toml.specs.Data.{Members};
 ghost use Rattle.toml.specs.Parse.{parse_document};
 ghost use Rattle.toml.specs.Errors.{IsMemory};
@@ -9,14 +9,14 @@ ghost use Rattle.toml.specs.View.{table_view};
 ghost use Rattle.scenario_text.specs.Spelling.{Spells};
 ghost use Rattle.scenario_text.specs.FirstForm.{IsFirstForm};
 ghost use Rattle.scenario_text.specs.Answers.{Answers, AnswersOne};
-ghost use Rattle.scenario_text.specs.Refusals.{IsRefusal, scenario_of_one};
+ghost use Rattle.scenario_text.specs.Refusals.{IsTextFault, scenario_of_one};
 
 use crate::fault::{BadScenario, Rule, ScenarioFault, Stop};
 use crate::outline::outline_of;
 use crate::script::{is_first_script, script_of};
 use domains::{Level, Shape};
 use lists::List;
-use scenarios::{FileDecl, Name, Scenario, Script};
+use scenario::{FileDecl, Name, Scenario, Script};
 use std::alloc::Global;
 use toml::Table;
 
@@ -26,7 +26,7 @@ pub fn read(alloc: Global, text: &str) -> Result<Scenario, ScenarioFault>
     ensures found { IfOk result (λ s. Spells text.now s) }
     ensures form { IfOk result (λ s. IsFirstForm s) }
     ensures only { (s : Scenario) → Spells text.now s → IsFirstForm s → IfOk result (λ read. read ≡ s) }
-    ensures unbuilt { IfErr result (λ fault. IsRefusal text.now fault) }
+    ensures unbuilt { IfErr result (λ fault. IsTextFault text.now fault) }
 {
     match scenario_of(alloc, text) {
         Ok(scenario) => Ok(scenario),

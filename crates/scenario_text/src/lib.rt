@@ -10,7 +10,7 @@ mod script;
 
 pub use document::read;
 pub use fault::{BadScenario, Rule, ScenarioFault};
-pub use scenarios::{FileDecl, Name, Op, Scenario, Script, Text};
+pub use scenario::{FileDecl, Name, Op, Scenario, Script, Text};
 
 #[cfg(test)]
 mod tests;

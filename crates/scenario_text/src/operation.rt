@@ -3,16 +3,16 @@
 ghost use Rattle.std.specs.Prelude.{◌≡◌, ◌↔◌, ◌++◌, ◌∷◌, ℕ, ◌<◌, ◌≤◌, ◌^◌, codes, List, IsTrue, IfSome, IsSomeAnd, IfOk, OnOk, Some};
 ghost use Rattle.std.specs.Fmt.{decimal};
 ghost use Rattle.domains.specs.Drive.{Drive, IsDrive};
-ghost use Rattle.scenarios.specs.Words.{IsText};
-ghost use Rattle.scenarios.specs.Ops.{op_text};
-ghost use Rattle.scenarios.specs.declared.op.Op.{Op};
-ghost use Rattle.scenarios.specs.declared.op.Op.TheVariants.{WriteText};
+ghost use Rattle.scenario.specs.Words.{IsText};
+ghost use Rattle.scenario.specs.Ops.{op_text};
+ghost use Rattle.scenario.specs.declared.op.Op.{Op};
+ghost use Rattle.scenario.specs.declared.op.Op.TheVariants.{WriteText};
 ghost use Rattle.scenario_text.specs.Answers.{Answers, HasOneForm, only_file, FitsOp};
 ghost use Rattle.scenario_text.specs.Answers.{text_of_create, text_of_read, text_of_write, text_of_fail};
 
 use crate::fault::Stop;
 use domains::DriveId;
-use scenarios::{Op, Text};
+use scenario::{Op, Text};
 use std::alloc::Global;
 
 /// The operation that the text spells, in a scenario whose only file has this name.

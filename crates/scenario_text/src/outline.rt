@@ -1,8 +1,8 @@
 //! Reads the table of a document: the cluster, the file's name, and the items of the script.
 
 ghost use Rattle.std.specs.Prelude.{codes, ◌≡◌, ◌↔◌, ℕ, ◌≤◌, List, IsSome, IfSome, IsSomeAnd, Some, string_bytes};
-ghost use Rattle.domains.specs.Cluster.{Cluster};
-ghost use Rattle.scenarios.specs.Words.{IsName};
+ghost use Rattle.domains.specs.Shape.{Shape};
+ghost use Rattle.scenario.specs.Words.{IsName};
 ghost use Rattle.toml.specs.Data.{Data, Items, array};
 ghost use Rattle.toml.specs.View.{view, array_view, table_view};
 ghost use Rattle.scenario_text.specs.Spelling.{file_items};
@@ -14,7 +14,7 @@ use crate::members::{
     take_number_or,
 };
 use domains::Shape;
-use scenarios::Name;
+use scenario::Name;
 use toml::value::Array;
 use toml::{Table, Value};
 
@@ -30,7 +30,7 @@ pub(crate) struct Outline {
 pub(crate) fn outline_of(members: Table) -> Option<Outline>
     ensures found { IfSome result (λ o. IsDocument (table_view members) o.shape (actors_data (array_view o.items)) (array (file_items (only_file o.name)))) }
     ensures playable { IfSome result (λ o. IsPlayable o.shape) }
-    ensures only { (shape : Cluster) (name : List ℕ) (items : Items) → IsPlayable shape → IsName name → IsDocument (table_view members) shape (actors_data items) (array (file_items (only_file name))) → IsSomeAnd result (λ o. (o.shape ≡ shape) × (o.name ≡ name) × (array_view o.items ≡ items)) }
+    ensures only { (shape : Shape) (name : List ℕ) (items : Items) → IsPlayable shape → IsName name → IsDocument (table_view members) shape (actors_data items) (array (file_items (only_file name))) → IsSomeAnd result (λ o. (o.shape ≡ shape) × (o.name ≡ name) × (array_view o.items ≡ items)) }
 {
     let parts = parts_of(members)?;
     let name = name_of(parts.files)?;
@@ -53,7 +53,7 @@ struct Parts {
 fn parts_of(mut members: Table) -> Option<Parts>
     ensures found { IfSome result (λ p. IsDocument (table_view members) p.shape (view p.actors) (view p.files)) }
     ensures playable { IfSome result (λ p. IsPlayable p.shape) }
-    ensures only { (shape : Cluster) (actors files : Data) → IsPlayable shape → IsDocument (table_view members) shape actors files → IsSomeAnd result (λ p. (p.shape ≡ shape) × (view p.actors ≡ actors) × (view p.files ≡ files)) }
+    ensures only { (shape : Shape) (actors files : Data) → IsPlayable shape → IsDocument (table_view members) shape actors files → IsSomeAnd result (λ p. (p.shape ≡ shape) × (view p.actors ≡ actors) × (view p.files ≡ files)) }
 {
     let actors = take_key(&mut members, "actor")?;
     let drives = take_number(&mut members, "drives", 1, 16)?;

@@ -3,9 +3,9 @@
 ghost use Rattle.std.specs.Prelude.{◌≡◌, ◌↔◌, ◌∷◌, [], ℕ, ◌<◌, ◌≤◌, ◌^◌, length, List, true, IsTrue, IfOk};
 ghost use Rattle.std.specs.List.{AllByRecursion};
 ghost use Rattle.domains.specs.Drive.{IsDrive};
-ghost use Rattle.domains.specs.Cluster.{is_of};
-ghost use Rattle.scenarios.specs.Ops.{op_text};
-ghost use Rattle.scenarios.specs.declared.op.Op.{Op};
+ghost use Rattle.domains.specs.Shape.{is_of};
+ghost use Rattle.scenario.specs.Ops.{op_text};
+ghost use Rattle.scenario.specs.declared.op.Op.{Op};
 ghost use Rattle.toml.specs.Data.{string};
 ghost use Rattle.toml.specs.View.{view, items_view};
 ghost use Rattle.scenario_text.specs.Spelling.{op_items};
@@ -16,7 +16,7 @@ use crate::fault::Stop;
 use crate::operation::op_of;
 use domains::{DriveId, Shape};
 use lists::List;
-use scenarios::{Op, Script};
+use scenario::{Op, Script};
 use std::alloc::Global;
 use toml::Value;
 

@@ -18,7 +18,7 @@ fn the_first_scenario_reads_and_prints_as_it_stands(rt: HostRuntime) -> Result<(
     let alloc = rt.alloc();
     let text = document(alloc, NUMBERS, FILE, OPS)?;
     let scenario = read(alloc, text.as_str())?;
-    let printed = scenarios::print(alloc, &scenario)?;
+    let printed = scenario::print(alloc, &scenario)?;
     assert_eq!(rt; printed.as_str(), text.as_str());
     Ok(())
 }

@@ -1,5 +1,5 @@
-use Rattle.domains.proofs.Kept.{keeps}
+use Rattle.domains.proofs.LossLemmas.{kept_units-most}
 use Rattle.domains.proofs.laws.levels_bear_their_losses.Goals as goal
 
 pub returns : goal.returns
-returns c = keeps
+returns c = kept_units-most

@@ -1,5 +1,5 @@
 use Rattle.std.proofs.Common.{Err, subst, refl}
-use Rattle.scenarios.specs.declared.scenario.Scenario.{Scenario}
+use Rattle.scenario.specs.declared.scenario.Scenario.{Scenario}
 use Rattle.scenario_text.specs.declared.fault.Stop.{Stop}
 use Rattle.scenario_text.specs.Answers.{Answers}
 use Rattle.scenario_text.proofs.document.read.Goals as goal

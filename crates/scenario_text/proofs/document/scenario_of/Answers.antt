@@ -1,6 +1,6 @@
 use Rattle.std.proofs.Common.{◌≡◌, ◌∙◌, subst}
 use Rattle.std.proofs.lemmas.Bool.{false≢true}
-use Rattle.scenarios.specs.declared.scenario.Scenario.{Scenario}
+use Rattle.scenario.specs.declared.scenario.Scenario.{Scenario}
 use Rattle.toml.specs.View.{items_view, table_view}
 use Rattle.scenario_text.specs.Answers.{Answers, only_file}
 use Rattle.scenario_text.specs.FirstForm.{IsFirstScript}

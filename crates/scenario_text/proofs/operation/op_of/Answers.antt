@@ -1,9 +1,9 @@
 use Rattle.std.proofs.Common.{◌≡◌, sym, ap, ◌∙◌, refl}
 use Rattle.std.proofs.lemmas.Bool.{false≢true}
 use Rattle.std.proofs.lemmas.Result.{IfOk-weaker}
-use Rattle.scenarios.specs.Ops.{op_text}
-use Rattle.scenarios.specs.declared.op.Op.{Op}
-use Rattle.scenarios.specs.declared.op.Op.TheVariants.{WriteText}
+use Rattle.scenario.specs.Ops.{op_text}
+use Rattle.scenario.specs.declared.op.Op.{Op}
+use Rattle.scenario.specs.declared.op.Op.TheVariants.{WriteText}
 use Rattle.scenario_text.specs.Answers.{only_file}
 use Rattle.scenario_text.proofs.Operations.{op_text-Create, op_text-Read, op_text-WriteText, op_text-Fail, only_Create, only_Read, only_Fail, only_WriteText, no_kind, none_some, pair}
 use Rattle.scenario_text.proofs.operation.op_of.Goals as goal

@@ -1,6 +1,6 @@
 use Rattle.std.proofs.Common.{◌≡◌, List, drop}
 use Rattle.std.specs.List.{AllByRecursion}
-use Rattle.scenarios.specs.declared.op.Op.{Op}
+use Rattle.scenario.specs.declared.op.Op.{Op}
 use Rattle.toml.specs.View.{items_view}
 use Rattle.scenario_text.specs.Spelling.{op_items}
 use Rattle.scenario_text.specs.Answers.{only_file, FitsOp}

@@ -1,5 +1,5 @@
 use Rattle.std.proofs.Common.{arith}
-use Rattle.domains.proofs.Words.{bit_added}
+use Rattle.domains.proofs.DriveSetLemmas.{bit_added}
 use Rattle.domains.proofs.drive_set.DriveSet.add.Goals as goal
 
 pub returns : goal.returns

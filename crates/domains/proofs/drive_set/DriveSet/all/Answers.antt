@@ -1,5 +1,5 @@
 use Rattle.std.proofs.Common.{◌≡◌, ℕ, length-set, subst, arith, refl, ◌∙◌}
-use Rattle.domains.proofs.Words.{AreWhole, whole_none, whole_more, bit_of_whole}
+use Rattle.domains.proofs.DriveSetLemmas.{AreWhole, whole_none, whole_more, bit_of_whole}
 use Rattle.domains.proofs.drive_set.DriveSet.all.Goals as goal
 
 pub loop-node-init : goal.loop-node-init

@@ -1,5 +1,5 @@
 use Rattle.std.proofs.Common.{◌≡◌, length}
-use Rattle.domains.proofs.Words.{AreWhole}
+use Rattle.domains.proofs.DriveSetLemmas.{AreWhole}
 use Rattle.domains.proofs.drive_set.DriveSet.all.Given as goal
 
 -- the nodes so far have their words

@@ -1,0 +1,65 @@
+//! The name of a file.
+
+ghost use Rattle.std.specs.Prelude.{◌≡◌, ◌↔◌, string_bytes, IsSome, IfSome, IsTrue};
+ghost use Rattle.std.specs.List.{list_all};
+ghost use Rattle.scenario.specs.Words.{IsName, is_name_byte};
+
+use std::marker::Model;
+
+/// A name: 1 to 64 of the letters, the digits, `.`, `_` and `-`. Contracts see its bytes.
+#[derive(Debug, Drop)]
+pub struct Name {
+    text: String,
+}
+
+impl Model for Name {
+    ghost use Rattle.std.specs.Prelude.{List, ℕ, string_bytes};
+    ghost use Rattle.scenario.specs.Words.{IsName};
+
+    ghost Value = { List ℕ };
+
+    ghost view = { λ n. string_bytes n.text };
+
+    ghost invariant = { λ n. IsName (string_bytes n.text) };
+}
+
+impl Name {
+    /// The name of this text, if it is one.
+    pub fn new(text: String) -> Option<Name>
+        ensures found { IfSome result (λ n. n ≡ string_bytes text) }
+        ensures exact { IsSome result ↔ IsName (string_bytes text) }
+    {
+        if is_name(text.as_str()) {
+            Some(Name { text })
+        } else {
+            None
+        }
+    }
+
+    pub fn as_str(&self) -> &str
+        ensures value { result.now ≡ self.now }
+        ensures name { IsName self.now }
+    {
+        self.text.as_str()
+    }
+}
+
+/// Whether the text is a name.
+fn is_name(text: &str) -> bool
+    ensures { IsTrue result ↔ IsName text.now }
+{
+    !text.is_empty() && text.len() <= 64 && all_bytes_fit(text)
+}
+
+fn all_bytes_fit(text: &str) -> bool
+    ensures { result ≡ list_all is_name_byte text.now }
+{
+    text.bytes().all(is_name_byte)
+}
+
+/// Whether the byte may stand in a name.
+fn is_name_byte(byte: u8) -> bool
+    ensures { result ≡ is_name_byte byte }
+{
+    byte.is_ascii_alphanumeric() || byte == b'.' || byte == b'_' || byte == b'-'
+}
