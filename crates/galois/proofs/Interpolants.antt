@@ -3,10 +3,10 @@ use Rattle.std.proofs.Common.{◌≡◌, ◌≢◌, ℕ, zero, suc, ◌<◌, Lis
 use Rattle.std.proofs.lemmas.List.Elements.{All-head, All-tail, All-cons, All-nil}
 use Rattle.galois.specs.Field.{IsByte, field_sum, field_product}
 use Rattle.galois.specs.Polynomial.{polynomial_value, linear_times}
-use Rattle.galois.proofs.Doubling.{sum_comm, sum_zero, sum_self, sum_twice, sum-byte}
-use Rattle.galois.proofs.Products.{product-byte, product_comm, product_assoc, one-product, product-zero, zero-product}
+use Rattle.galois.proofs.FieldSums.{sum_comm, sum_zero, sum_self, sum_twice, sum-byte}
+use Rattle.galois.proofs.FieldProducts.{product-byte, product_comm, product_assoc, one-product, product-zero, zero-product}
 use Rattle.galois.proofs.Inverses.{inverse, inverse-byte, product-inverse, difference_not_zero}
-use Rattle.galois.proofs.Values.{value-nil, value-cons, value-byte, factor_step}
+use Rattle.galois.proofs.PolynomialValues.{value-nil, value-cons, value-byte, factor_step}
 use Rattle.galois.proofs.Roots.{different_first, different_rest}
 
 pub linear_times-bytes : (a c : ℕ) (qs : List ℕ) → IsByte a → IsByte c → All IsByte qs → All IsByte (linear_times a c qs)

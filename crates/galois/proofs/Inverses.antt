@@ -2,8 +2,8 @@
 use Rattle.std.proofs.Common.{◌≡◌, ℕ, zero, suc, ◌==◌, ◌||◌, true, sym, ap, ◌∙◌, refl, arith, inl, inr, ◌≢◌, eqb-true}
 use Rattle.std.proofs.lemmas.Bool.{or_cases}
 use Rattle.galois.specs.Field.{IsByte, field_sum, doubled, doubled_times, product_below, field_product}
-use Rattle.galois.proofs.Doubling.{all_below, all_below_at, same_from_sum}
-use Rattle.galois.proofs.Products.{product-byte, product_comm, product_assoc, one-product, product-one, product-zero, zero-product}
+use Rattle.galois.proofs.FieldSums.{all_below, all_below_at, same_from_sum}
+use Rattle.galois.proofs.FieldProducts.{product-byte, product_comm, product_assoc, one-product, product-one, product-zero, zero-product}
 
 -- the product of the next so many squares of a byte
 squares : ℕ → ℕ → ℕ

@@ -1,11 +1,12 @@
-mod Computed
-pub mod Doubling
-pub mod Horner
+pub mod DoubledBytes
+pub mod FieldProducts
+pub mod FieldSums
+pub mod HornersRule
 pub mod Interpolants
 pub mod Inverses
 pub mod Mirrors
-pub mod Products
+mod PolynomialThroughPoints
+pub mod PolynomialValues
 pub mod Roots
-pub mod Rows
-mod Through
-pub mod Values
+mod TableEntries
+mod WorkedValues

@@ -4,10 +4,10 @@ use Rattle.std.proofs.Common.{◌≡◌, ◌≢◌, ℕ, suc, ◌<◌, ◌≤◌
 use Rattle.std.proofs.lemmas.List.Elements.{All-head, All-tail, All-cons, All-nil}
 use Rattle.galois.specs.Field.{IsByte, field_sum, field_product}
 use Rattle.galois.specs.Polynomial.{polynomial_value, added}
-use Rattle.galois.proofs.Doubling.{sum_zero, sum_self, sum-byte, same_from_sum}
-use Rattle.galois.proofs.Products.{product-zero, one-product}
+use Rattle.galois.proofs.FieldSums.{sum_zero, sum_self, sum-byte, same_from_sum}
+use Rattle.galois.proofs.FieldProducts.{product-zero, one-product}
 use Rattle.galois.proofs.Inverses.{zero_factor, difference_not_zero}
-use Rattle.galois.proofs.Values.{value-nil, value-cons, value-byte, added-bytes, length-added, value-added, factor_step}
+use Rattle.galois.proofs.PolynomialValues.{value-nil, value-cons, value-byte, added-bytes, length-added, value-added, factor_step}
 
 -- a number is zero
 abbrev pub IsZero : ℕ → Type 0

@@ -1,4 +1,4 @@
-//! Sums, products and inverses of bytes as elements of the field.
+//! Sum, product and inverse of field elements.
 
 ghost use Rattle.std.specs.Prelude.{◌≡◌, ◌<◌};
 ghost use Rattle.galois.specs.Field.{field_sum, field_product};
@@ -25,7 +25,7 @@ pub fn mul(a: u8, b: u8) -> u8
     tables::powers()[doublings]
 }
 
-/// The byte that times `a` is 1.
+/// The inverse of `a`, which is not zero.
 pub fn inv(a: u8) -> u8
     requires { 0 < a }
     ensures { field_product a result ≡ 1 }

@@ -1,4 +1,4 @@
-//! The polynomial through given points.
+//! Newton interpolation: the polynomial through given points.
 
 ghost use Rattle.std.specs.Prelude.{◌≡◌, ◌≢◌, All, [], ◌∷◌, ◌++◌, ◌+◌, length, IfOk, OnOk};
 ghost use Rattle.galois.specs.Field.{IsByte, field_sum, field_product};
@@ -17,7 +17,7 @@ pub struct Point8 {
     pub y: u8,
 }
 
-/// The polynomial through the points, with as many coefficients as there are points.
+/// The polynomial through n points at different elements. It has n coefficients, the constant first.
 pub fn interpolate(alloc: Global, points: &List<Point8>) -> Result<Poly, AllocError>
     requires apart { AreApart points.now }
     ensures degree { IfOk result (λ p. length p ≡ length points.now) }
@@ -31,7 +31,7 @@ pub fn interpolate(alloc: Global, points: &List<Point8>) -> Result<Poly, AllocEr
     Ok(Poly::new(coefficients))
 }
 
-// Makes a polynomial take one point more than those at the roots of the other, and adds its root.
+// Adds a point to the interpolating polynomial, and its element to the roots of the other.
 fn take_point(
     coefficients: &mut Vec<u8>,
     roots: &mut Vec<u8>,
@@ -48,7 +48,7 @@ fn take_point(
     times_root(roots, point.x)
 }
 
-// How often the polynomial of the roots has to be added so that the point is taken.
+// The multiple of the root polynomial that makes the sum take the point.
 fn scale_at(coefficients: &[u8], roots: &[u8], point: Point8) -> u8
     requires apart { polynomial_value roots.now point.x ≢ 0 }
     ensures { field_product result (polynomial_value roots.now point.x) ≡ field_sum point.y (polynomial_value coefficients.now point.x) }
@@ -57,7 +57,7 @@ fn scale_at(coefficients: &[u8], roots: &[u8], point: Point8) -> u8
     mul(missing, inv(value_of(roots, point.x)))
 }
 
-// Adds a multiple of a polynomial with one coefficient more.
+// Adds a multiple of a polynomial that has one more coefficient.
 fn add_multiple(coefficients: &mut Vec<u8>, others: &[u8], scale: u8) -> Result<(), AllocError>
     requires { length others.now ≡ length coefficients.old.items + 1 }
     ensures { OnOk result (coefficients.new.items ≡ added scale (coefficients.old.items ++ 0 ∷ []) others.now) }
@@ -67,7 +67,7 @@ fn add_multiple(coefficients: &mut Vec<u8>, others: &[u8], scale: u8) -> Result<
     Ok(())
 }
 
-// Adds a multiple of each of the others.
+// Adds a multiple of each coefficient of a polynomial of the same length.
 fn add_each(coefficients: &mut [u8], others: &[u8], scale: u8)
     requires { length coefficients.old ≡ length others.now }
     ensures { coefficients.new ≡ added scale coefficients.old others.now }
@@ -77,7 +77,7 @@ fn add_each(coefficients: &mut [u8], others: &[u8], scale: u8)
     }
 }
 
-// Multiplies by the polynomial of degree 1 that is zero at `root`.
+// Multiplies by the linear polynomial with this root.
 fn times_root(coefficients: &mut Vec<u8>, root: u8) -> Result<(), AllocError>
     ensures { OnOk result (coefficients.new.items ≡ linear_times root 0 coefficients.old.items) }
 {
@@ -86,7 +86,7 @@ fn times_root(coefficients: &mut Vec<u8>, root: u8) -> Result<(), AllocError>
     Ok(())
 }
 
-// Multiplies by the polynomial of degree 1 that is zero at `root`, and returns the coefficient that comes on top.
+// Multiplies by the linear polynomial with this root in place, and returns the new leading coefficient.
 fn times_root_below(coefficients: &mut [u8], root: u8) -> u8
     ensures { coefficients.new ++ result ∷ [] ≡ linear_times root 0 coefficients.old }
 {

@@ -1,8 +1,8 @@
-//! The laws of the field and of polynomials over it: each function's contract is one, and calling it costs nothing.
+//! Laws of the field and of polynomials over it. Each function's contract is one law; the bodies are empty.
 
 ghost use Rattle.galois.specs.Laws.{IsField, RootsAreFew, ValuesDetermine};
 
-/// The bytes are a field under the sum and the product.
+/// Bytes form a field under the sum and the product.
 pub fn bytes_are_a_field()
     ensures { IsField }
 {}

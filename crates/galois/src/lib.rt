@@ -1,4 +1,4 @@
-//! The field of 256 elements in which the units of a protection group are computed, and polynomials over it.
+//! GF(2^8) modulo 0x11D, the field over which stripe units are coded, and polynomials over it.
 #![tactic(auto)]
 
 mod field;

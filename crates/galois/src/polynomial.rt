@@ -6,7 +6,7 @@ ghost use Rattle.galois.specs.Polynomial.{polynomial_value};
 use crate::{add, mul};
 use std::marker::Model;
 
-/// A polynomial over the field. Contracts see its coefficients, the constant first.
+/// A polynomial over the field. Contracts see the list of its coefficients, the constant first.
 #[derive(Drop)]
 pub struct Poly {
     coefficients: Vec<u8>,
@@ -36,7 +36,7 @@ impl Poly {
     }
 }
 
-/// The value that the polynomial takes at an element.
+/// The value of the polynomial at an element.
 pub fn value_at(p: &Poly, x: u8) -> u8
     ensures { result ≡ polynomial_value p.now x }
 {

@@ -1,13 +1,13 @@
-//! The tables by which bytes are multiplied and divided, each proved equal to the field's definition.
+//! Tables of powers, logarithms and inverses, each proved against the definition of the field.
 
 ghost use Rattle.galois.specs.Tables.{HoldsPowers, HoldsLogarithms, HoldsInverses};
 
-// A table of the bytes that its rows list.
+// A table of bytes, row by row.
 macro_rules! table {
     ($($($byte:literal)*;)*) => { &[$($($byte,)*)*] };
 }
 
-/// One, doubled as often as the index says: the powers of the element 2, twice around.
+/// Powers of the element 2, over two periods of 255: entry i is 2 to the power i.
 pub(crate) fn powers() -> &'static [u8; 510]
     ensures { HoldsPowers result.now }
 {
@@ -47,7 +47,7 @@ pub(crate) fn powers() -> &'static [u8; 510]
     }
 }
 
-/// How often one is doubled to give the byte at the index. The byte 0 is never reached.
+/// Logarithms to the base 2. Entry 0 is unused, since 0 is no power of 2.
 pub(crate) fn logarithms() -> &'static [u8; 256]
     ensures { HoldsLogarithms result.now }
 {
@@ -71,7 +71,7 @@ pub(crate) fn logarithms() -> &'static [u8; 256]
     }
 }
 
-/// The inverse of the byte at the index. The byte 0 has none.
+/// Inverses. Entry 0 is unused, since 0 has none.
 pub(crate) fn inverses() -> &'static [u8; 256]
     ensures { HoldsInverses result.now }
 {

@@ -1,4 +1,4 @@
-//! Worked values of the field, of polynomials and of interpolation.
+//! Worked values of products, inverses and interpolation.
 
 use crate::{Point8, add, interpolate, inv, mul, value_at};
 use lists::List;

@@ -1,7 +1,8 @@
-pub mod Buffers
-pub mod Extending
-pub mod Held
-pub mod Lagrange
-pub mod Moving
-pub mod Weighing
-pub mod Words
+pub mod CodewordUnits
+pub mod CorrectionUnits
+pub mod HeldUnitLemmas
+pub mod LagrangeWeights
+pub mod UnitBuffers
+pub mod WeightRows
+pub mod WeightedSumLemmas
+pub mod WeightsAtPositions

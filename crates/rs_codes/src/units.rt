@@ -27,7 +27,7 @@ impl Model for Units {
 }
 
 impl Units {
-    /// No unit yet, where each will have `len` bytes.
+    /// An empty list of units of `len` bytes.
     pub fn new(alloc: Global, len: u32) -> Self
         ensures { result ≡ record { unit_length = len; units = [] } }
     {
@@ -38,7 +38,19 @@ impl Units {
         }
     }
 
-    /// Adds a unit at the end.
+    /// The `count` units that follow one another in a buffer, which is not copied.
+    pub fn from_bytes(bytes: Vec<u8>, unit_length: u32, count: u8) -> Self
+        requires whole { length bytes.items ≡ count * unit_length }
+        ensures { result ≡ record { unit_length = unit_length; units = units_in count unit_length bytes.items } }
+    {
+        Units {
+            bytes,
+            unit_length,
+            count,
+        }
+    }
+
+    /// Appends a unit.
     pub fn push(&mut self, bytes: &[u8]) -> Result<(), AllocError>
         requires unit { length bytes.now ≡ self.old.unit_length }
         requires room { length self.old.units < 255 }
@@ -60,7 +72,7 @@ impl Units {
         &self.bytes[start..start + self.unit_length as usize]
     }
 
-    /// The bytes of all units, one after another.
+    /// The bytes of all units, one unit after another.
     pub fn bytes(&self) -> &[u8]
         ensures units { units_in (length self.now.units) self.now.unit_length result.now ≡ self.now.units }
         ensures length { length result.now ≡ length self.now.units * self.now.unit_length }
@@ -68,14 +80,14 @@ impl Units {
         &self.bytes
     }
 
-    /// How many units there are.
+    /// The number of units.
     pub fn count(&self) -> u8
         ensures { result ≡ length self.now.units }
     {
         self.count
     }
 
-    /// How many bytes each unit has.
+    /// The length of each unit in bytes.
     pub fn unit_length(&self) -> u32
         ensures { result ≡ self.now.unit_length }
     {

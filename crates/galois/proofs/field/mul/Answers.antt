@@ -1,7 +1,7 @@
 use Rattle.std.proofs.Common.{ℕ, get_or, sym, ap, ◌∙◌, arith}
 use Rattle.galois.specs.Field.{field_product}
-use Rattle.galois.proofs.Products.{zero-product, product-zero}
-use Rattle.galois.proofs.Computed.{product_by_tables}
+use Rattle.galois.proofs.FieldProducts.{zero-product, product-zero}
+use Rattle.galois.proofs.TableEntries.{product_by_tables}
 use Rattle.galois.proofs.field.mul.Goals as goal
 use Rattle.galois.proofs.field.mul.Goals.{then-a-eq0-via-then-a-eq0, then-a-eq0-via-else-a-eq0+then-b-eq0}
 

@@ -1,5 +1,5 @@
 use Rattle.std.proofs.Common.{arith}
-use Rattle.galois.proofs.Through.{added_by_entry}
+use Rattle.galois.proofs.PolynomialThroughPoints.{added_by_entry}
 use Rattle.galois.proofs.interpolation.add_each.Goals as goal
 
 pub returns : goal.returns

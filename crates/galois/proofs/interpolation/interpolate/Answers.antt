@@ -1,6 +1,6 @@
 use Rattle.std.proofs.Common.{arith}
 use Rattle.galois.specs.declared.interpolation.Point8.{Point8}
-use Rattle.galois.proofs.Through.{through_start, through_step, apart_at}
+use Rattle.galois.proofs.PolynomialThroughPoints.{through_start, through_step, apart_at}
 use Rattle.galois.proofs.interpolation.interpolate.Goals as goal
 
 pub loop-point-init : goal.loop-point-init

@@ -1,5 +1,5 @@
 use Rattle.std.proofs.Common.{take}
-use Rattle.galois.proofs.Through.{IsThrough}
+use Rattle.galois.proofs.PolynomialThroughPoints.{IsThrough}
 use Rattle.galois.proofs.interpolation.interpolate.Given as goal
 
 abbrev pub invariant-loop-point : goal.invariant-loop-point

@@ -1,7 +1,7 @@
 use Rattle.std.proofs.Common.{ℕ, ap, sym, ◌∙◌, arith}
 use Rattle.galois.specs.Field.{field_sum, field_product}
 use Rattle.galois.specs.Polynomial.{polynomial_value}
-use Rattle.galois.proofs.Through.{scale_by_inverse}
+use Rattle.galois.proofs.PolynomialThroughPoints.{scale_by_inverse}
 use Rattle.galois.proofs.interpolation.scale_at.Goals as goal
 
 pub returns : goal.returns

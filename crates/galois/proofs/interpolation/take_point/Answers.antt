@@ -1,6 +1,6 @@
 use Rattle.std.proofs.Common.{arith}
 use Rattle.std.proofs.lemmas.Result.{on_ok_weaker}
-use Rattle.galois.proofs.Through.{takes_point_as}
+use Rattle.galois.proofs.PolynomialThroughPoints.{takes_point_as}
 use Rattle.galois.proofs.interpolation.take_point.Goals as goal
 
 pub returns : goal.returns

@@ -1,5 +1,5 @@
 use Rattle.std.proofs.Common.{◌≡◌, ◌∷◌, ◌∙◌, ℕ, ap, get_or, length, arith}
-use Rattle.galois.proofs.Through.{linear_times_by_entry}
+use Rattle.galois.proofs.PolynomialThroughPoints.{linear_times_by_entry}
 use Rattle.galois.proofs.interpolation.times_root_below.Goals as goal
 
 pub returns : goal.returns

@@ -1,5 +1,5 @@
-use Rattle.galois.proofs.Doubling.{sum-byte, sum_assoc, sum_comm, sum_zero, sum_self}
-use Rattle.galois.proofs.Products.{product-byte, product_assoc, product_comm, product-one, product-sum}
+use Rattle.galois.proofs.FieldSums.{sum-byte, sum_assoc, sum_comm, sum_zero, sum_self}
+use Rattle.galois.proofs.FieldProducts.{product-byte, product_assoc, product_comm, product-one, product-sum}
 use Rattle.galois.proofs.Inverses.{inverse, inverse-byte, product-inverse}
 use Rattle.galois.proofs.laws.bytes_are_a_field.Goals as goal
 

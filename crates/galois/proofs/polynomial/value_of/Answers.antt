@@ -1,6 +1,6 @@
 use Rattle.std.proofs.Common.{◌-◌, get_or, ap, ◌∙◌, arith}
 use Rattle.galois.specs.Field.{field_sum}
-use Rattle.galois.proofs.Horner.{horner_start, horner_step}
+use Rattle.galois.proofs.HornersRule.{horner_start, horner_step}
 use Rattle.galois.proofs.polynomial.value_of.Goals as goal
 
 pub loop-degree-init : goal.loop-degree-init
