@@ -8,14 +8,14 @@ use Rattle.turn_cell.specs.declared.chronicle.Note.{Note}
 use Rattle.turn_cell.specs.declared.seat.Seat.{Seat}
 use Rattle.turn_cell.specs.declared.turn.Turn.{Turn}
 use Rattle.turn_cell.specs.declared.view.Hold.TheVariants.{Free, Waits, Has}
-use Rattle.turn_cell.specs.declared.view.Sitting.{Sitting}
+use Rattle.turn_cell.specs.declared.view.Known.{Known}
 use Rattle.turn_cell.specs.declared.view.View.{View}
-use Rattle.turn_cell.specs.declared.view.View.TheVariants.{Sits}
+use Rattle.turn_cell.specs.declared.view.View.TheVariants.{Active}
 use Rattle.turn_cell.specs.Notes.{notes_by, AreBelow, AreZeros}
 use Rattle.turn_cell.specs.Histories.{Follows}
-use Rattle.turn_cell.specs.Plays.{Finds}
-use Rattle.turn_cell.specs.Rule.{dealing}
-use Rattle.turn_cell.specs.Views.{IsSits, sitting_of, is_free, found_in, with_hold}
+use Rattle.turn_cell.specs.StepOutcomes.{Finds}
+use Rattle.turn_cell.specs.CellRule.{dealing}
+use Rattle.turn_cell.specs.Views.{IsActive, known_in, is_free, found_in, with_hold}
 
 -- which cell it is, and how many seats it has
 pub record CellView : Type 0 where
@@ -35,36 +35,36 @@ module _ {S : Type 0} where
   is_empty [] = true
   is_empty (x ∷ xs) = false
 
-  abbrev pub view_of : TableId → ℕ → (me : Me (Option S) (View S)) → IsSits me.0 → SeatView S
-  view_of name number me sits =
-      let v = sitting_of me.0 sits in
+  abbrev pub view_of : TableId → ℕ → (me : Me (Option S) (View S)) → IsActive me.0 → SeatView S
+  view_of name number me active =
+      let v = known_in me.0 active in
       record { cell = record { name = name; seats = v.seats }; number = number; idle = is_free v.hold && is_empty me.1; turns = v.turns; last = v.last }
 
   abbrev pub seat_view : Seat S → SeatView S
-  seat_view seat = view_of seat.pass.table_id seat.number seat.pass.me seat.sits
+  seat_view seat = view_of seat.token.table_id seat.number seat.token.me seat.active
 
   -- what the seat knows
-  abbrev pub sitting : Seat S → Sitting S
-  sitting seat = sitting_of seat.pass.me.0 seat.sits
+  abbrev pub known : Seat S → Known S
+  known seat = known_in seat.token.me.0 seat.active
 
   -- the value that the seat's turn found, and out of a turn its last state
   abbrev pub found_of : Seat S → S
-  found_of seat = found_in (sitting seat) (sitting seat).hold
+  found_of seat = found_in (known seat) (known seat).hold
 
-  -- it holds no ticket, and no value
+  -- it has no ticket and no value
   abbrev pub IsIdle : Seat S → Type 0
-  IsIdle seat = ((sitting seat).hold ≡ Free) × (seat.pass.me.1 ≡ [])
+  IsIdle seat = ((known seat).hold ≡ Free) × (seat.token.me.1 ≡ [])
 
-  -- it holds this ticket, and no value
+  -- it has this ticket and no value
   abbrev pub IsWaiting : Seat S → ℕ → Type 0
-  IsWaiting seat ticket = ((sitting seat).hold ≡ Waits ticket) × (seat.pass.me.1 ≡ [])
+  IsWaiting seat ticket = ((known seat).hold ≡ Waits ticket) × (seat.token.me.1 ≡ [])
 
   abbrev pub IsSame : Seat S → Seat S → Type 0
-  IsSame old new = (new.pass.table_id ≡ old.pass.table_id) × (new.number ≡ old.number)
+  IsSame old new = (new.token.table_id ≡ old.token.table_id) × (new.number ≡ old.number)
 
   -- the seats, each with its last state
   abbrev pub last_states : List (Seat S) → List (ℕ × S)
-  last_states seats = map (λ seat. ((sitting seat).number, (sitting seat).last)) seats
+  last_states seats = map (λ seat. ((known seat).number, (known seat).last)) seats
 
   -- the seat is one of this cell, and in no turn
   abbrev pub IsIdleOf : CellView → SeatView S → Type 0
@@ -73,7 +73,7 @@ module _ {S : Type 0} where
   abbrev pub in_turn : SeatView S → SeatView S
   in_turn seat = record seat { idle = false }
 
-  -- the seat, once it has found so many turns passed
+  -- the seat, once it knows that this many turns have passed
   abbrev pub seeing : SeatView S → ℕ → SeatView S
   seeing seat turns = record seat { turns = turns }
 
@@ -110,11 +110,11 @@ module _ {S E F : Type 0} where
   first_state cell = cell.table.shared.key.state.value
 
   abbrev pub IsOwn : TurnCell S E F → Seat S → Type 0
-  IsOwn cell seat = seat.pass.table_id ≡ cell.table.shared.table_id
+  IsOwn cell seat = seat.token.table_id ≡ cell.table.shared.table_id
 
-  -- the first seat, once so many seats were made
+  -- seat 0, once it has made seats up to this number
   abbrev pub IsDealer : TurnCell S E F → Seat S → ℕ → Type 0
-  IsDealer cell seat dealt = seat.pass.me ≡ (dealing dealt (cell_view cell).seats (first_state cell), [])
+  IsDealer cell seat dealt = seat.token.me ≡ (dealing dealt (cell_view cell).seats (first_state cell), [])
 
   -- the state that the turn found
   abbrev pub taken : Turn S E F → S
@@ -124,26 +124,30 @@ module _ {S E F : Type 0} where
   abbrev pub state_of : Turn S E F → S
   state_of turn = turn.state
 
+  -- the turn, once its state is this one
+  abbrev pub with_state : Turn S E F → S → Turn S E F
+  with_state turn state = record turn { state = state }
+
   -- the seat of a turn
   abbrev pub turn_seat : Turn S E F → SeatView S
   turn_seat turn = seat_view turn.seat.now
 
 module _ {S E F : Type 0} (turns_of : S → ℕ) (notes_of : S → List (Note E)) (tally_of : S → ℕ → List ℕ) (fixed_of : S → F) where
-  -- what the seat knows is v, beside the value that it has at this ticket, and the slot is empty
-  abbrev pub Takes : Sitting S → ℕ → S → Seat S → Type 0
-  Takes v ticket x seat = (seat.pass.me ≡ (Sits (with_hold v (Has ticket x)), (0, None) ∷ [])) × Finds turns_of notes_of tally_of fixed_of v ticket x
+  -- the seat knows v, has the value x at this ticket, and its slot is empty
+  abbrev pub Takes : Known S → ℕ → S → Seat S → Type 0
+  Takes v ticket x seat = (seat.token.me ≡ (Active (with_hold v (Has ticket x)), (0, None) ∷ [])) × Finds turns_of notes_of tally_of fixed_of v ticket x
 
   -- the seat is in the turn of this ticket
   pub record HasTurn (cell : TurnCell S E F) (seat : Seat S) (ticket : ℕ) : Type 0 where
     pub own : IsOwn cell seat
-    pub takes : Takes (sitting seat) ticket (found_of seat) seat
+    pub takes : Takes (known seat) ticket (found_of seat) seat
     pub room : ticket + 1 < 2 ^ 64
 
   -- the turn is that of its seat
   abbrev pub InTurn : Turn S E F → Type 0
   InTurn turn = HasTurn turn.cell.now turn.seat.now turn.ticket
 
-  -- the seat was in no turn, and its turn found x
+  -- what a turn tells at its start: the seat was in no turn, and the state that it found is x
   pub record Enters (begun : S → ℕ → S) (before after : SeatView S) (x state : S) : Type 0 where
     pub within : before.number < before.cell.seats
     pub few : before.number < 32
@@ -154,20 +158,21 @@ module _ {S E F : Type 0} (turns_of : S → ℕ) (notes_of : S → List (Note E)
     pub begins : state ≡ begun x before.number
     pub seat : after ≡ in_turn before
 
-  -- a turn of the seat found x and left y: what it added are the seat's newest notes, and the newest of all
+  -- what a turn tells at its end: it found x and left y, and the notes that it added are the last of the seat's and the last of all
   pub record Grows (seat : ℕ) (last x y : S) : Type 0 where
     pub follows : Follows turns_of notes_of tally_of fixed_of seat last x
     pub seen : IsPrefix (notes_of last) (notes_of y)
     pub mine : (more : List (Note E)) → notes_of y ≡ notes_of x ++ more → notes_by seat (notes_of y) ≡ notes_by seat (notes_of last) ++ more
     pub fixed : fixed_of y ≡ fixed_of last
 
-  -- the value follows the last state of each seat, numbered from here on
+  -- the state follows the last state of each seat, numbered from here on
   abbrev pub FollowsEach : S → ℕ → List (Seat S) → Type 0
   FollowsEach state number [] = Unit {0}
   FollowsEach state number (seat ∷ seats) =
       Follows turns_of notes_of tally_of fixed_of number (seat_view seat).last state × FollowsEach state (suc number) seats
 
-  -- the value of a closed cell: each note is some seat's, no other number has a tally, and of one seat the value is what its last turn left
+  -- the state of a closed cell: it follows each seat's last state, each note is a seat's, any other number has a tally of zeros, and
+  -- a single seat left it in its last turn
   pub record Closes (seats : List (Seat S)) (state : S) : Type 0 where
     pub follows : FollowsEach state 0 seats
     pub below : AreBelow (length seats) (notes_of state)

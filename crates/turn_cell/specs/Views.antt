@@ -2,27 +2,27 @@
 use Rattle.std.specs.Prelude.{ℕ, ◌+◌, Bool, true, false, Option, Some, None}
 use Rattle.turn_cell.specs.declared.view.Hold.{Hold}
 use Rattle.turn_cell.specs.declared.view.Hold.TheVariants.{Free, Waits, Has}
-use Rattle.turn_cell.specs.declared.view.Sitting.{Sitting}
+use Rattle.turn_cell.specs.declared.view.Known.{Known}
 use Rattle.turn_cell.specs.declared.view.View.{View}
-use Rattle.turn_cell.specs.declared.view.View.TheVariants.{Sits, Spent}
+use Rattle.turn_cell.specs.declared.view.View.TheVariants.{Active, Spent}
 
 module _ {S : Type 0} where
-  -- the seat was not taken in
-  abbrev pub IsSits : View S → Type 0
-  IsSits (Sits v) = Unit {0}
-  IsSits Spent = ⊥
+  -- no other seat has taken it in
+  abbrev pub IsActive : View S → Type 0
+  IsActive (Active v) = Unit {0}
+  IsActive Spent = ⊥
 
-  pub IsSits-prop : (v : View S) → IsProp (IsSits v)
-  IsSits-prop (Sits v) = hlevel
-  IsSits-prop Spent = hlevel
+  pub IsActive-prop : (v : View S) → IsProp (IsActive v)
+  IsActive-prop (Active v) = hlevel
+  IsActive-prop Spent = hlevel
 
-  -- what a seat knows that was not taken in
-  abbrev pub sitting_of : (v : View S) → IsSits v → Sitting S
-  sitting_of (Sits v) h = v
-  sitting_of Spent h = absurd h
+  -- what a seat knows that no other has taken in
+  abbrev pub known_in : (v : View S) → IsActive v → Known S
+  known_in (Active v) h = v
+  known_in Spent h = absurd h
 
   abbrev pub number_in : View S → ℕ
-  number_in (Sits v) = v.number
+  number_in (Active v) = v.number
   number_in Spent = 0
 
   abbrev pub is_free : Hold S → Bool
@@ -37,22 +37,22 @@ module _ {S : Type 0} where
   ticket_of (Has t x) = Some t
 
   abbrev pub ticket_in : View S → Option ℕ
-  ticket_in (Sits v) = ticket_of v.hold
+  ticket_in (Active v) = ticket_of v.hold
   ticket_in Spent = None
 
-  -- the value that the turn found, and out of a turn the last state
-  abbrev pub found_in : Sitting S → Hold S → S
+  -- the value that its turn found; in no turn, the last state
+  abbrev pub found_in : Known S → Hold S → S
   found_in v Free = v.last
   found_in v (Waits t) = v.last
   found_in v (Has t x) = x
 
-  abbrev pub with_hold : Sitting S → Hold S → Sitting S
+  abbrev pub with_hold : Known S → Hold S → Known S
   with_hold v hold = record v { hold = hold }
 
-  -- it has looked, and found so many turns passed
-  abbrev pub with_turns : Sitting S → ℕ → Sitting S
+  -- the seat, once it knows that this many turns have passed
+  abbrev pub with_turns : Known S → ℕ → Known S
   with_turns v turns = record v { turns = turns }
 
-  -- its turn of this ticket has left this state
-  abbrev pub after_turn : Sitting S → ℕ → S → Sitting S
+  -- the seat, once its turn at this ticket has left this state
+  abbrev pub after_turn : Known S → ℕ → S → Known S
   after_turn v ticket state = record v { turns = ticket + 1; last = state; hold = Free }

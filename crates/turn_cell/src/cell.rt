@@ -11,7 +11,7 @@ use atomic_table::Table;
 use std::alloc::Global;
 use std::sync::Wait;
 
-/// One value, which the seats of the cell take in turns.
+/// One value, which the seats of the cell change in turns. Turns are served in the order in which they are asked for.
 #[derive(Drop)]
 pub struct TurnCell<S: Chronicle> {
     pub(crate) table: Table<Option<S>, View<S>, Origin<S>, InTurns<S>, Global>,
@@ -24,7 +24,7 @@ impl<S: Chronicle> TurnCell<S> {
     ghost use Rattle.std.specs.Prelude.{true};
     ghost use Rattle.turn_cell.specs.Seats.{Enters, InTurn, IsIdleOf, cell_view, seat_view, seeing, state_of, taken, turn_seat};
 
-    /// Waits for the seat's turn, and begins it.
+    /// Waits for the seat's turn and begins it. The turn must end with `Turn::leave`; code that drops it does not compile.
     pub fn enter<'a, R: Wait>(&'a self, rt: &R, seat: &'a mut Seat<S>) -> Turn<'a, S>
         requires own { (seat_view seat.old).cell ≡ cell_view self.now }
         requires idle { (seat_view seat.old).idle ≡ true }
@@ -42,13 +42,13 @@ impl<S: Chronicle> TurnCell<S> {
         }
     }
 
-    /// How many turns have passed. It waits for nobody.
+    /// How many turns have passed. Does not wait.
     pub fn turns_done(&self, seat: &mut Seat<S>) -> u64
         requires own { (seat_view seat.old).cell ≡ cell_view self.now }
         requires idle { (seat_view seat.old).idle ≡ true }
         ensures value { (seat_view seat.old).turns ≤ result }
         ensures seen { seat_view seat.new ≡ seeing (seat_view seat.old) result }
     {
-        self.table.shared.load::<Look>(&mut seat.pass, SERVING)
+        self.table.shared.load::<Look>(&mut seat.token, SERVING)
     }
 }

@@ -1,8 +1,8 @@
-//! What the state of a cell tells of its turns.
+//! The state that a cell holds: it counts its turns and keeps a history.
 
 ghost use Rattle.std.specs.Prelude.{◌≡◌, ℕ, ◌+◌, ◌-◌, ◌^◌, ◌<◌, List};
 
-/// An entry of a state's history, with the number of turns that had passed and the seat whose turn it was.
+/// An entry of a history, with the seat that made it and the number of turns that had passed before its turn.
 #[derive(Clone, Copy, Debug, PartialEq, Eq)]
 pub struct Note<E> {
     pub turn: u64,
@@ -10,40 +10,44 @@ pub struct Note<E> {
     pub entry: E,
 }
 
-/// A state that counts its turns, and keeps notes of them.
+/// A state that counts its turns, keeps notes of them, and tallies what each seat did.
+///
+/// The laws say that `begin` changes nothing but the seat, and that `pass` adds one to the turns and changes nothing else.
 pub trait Chronicle {
     ghost use Rattle.turn_cell.specs.declared.chronicle.Note.{Note};
 
+    /// What a note says.
     type Entry;
 
+    /// What no turn changes.
     type Fixed;
 
-    /// The turns passed.
+    /// How many turns have passed.
     ghost turns_of: { Self → ℕ };
 
     /// The seat whose turn it is.
     ghost seat_of: { Self → ℕ };
 
-    /// The history: every turn's notes, in order.
+    /// The history: the notes of every turn, in order.
     ghost notes_of: { Self → List (Note Self.Entry) };
 
-    /// What the state counts for the seat of a number.
+    /// What the state counts for the seat with this number.
     ghost tally_of: { Self → ℕ → List ℕ };
 
-    /// What no turn changes.
+    /// The fixed part.
     ghost fixed_of: { Self → Self.Fixed };
 
-    /// The state once the turn of a seat has begun.
+    /// The state after `begin`.
     ghost begun: { Self → ℕ → Self };
 
-    /// The state once its turn has passed.
+    /// The state after `pass`.
     ghost passed: { Self → Self };
 
     /// How many turns have passed.
     fn turns(&self) -> u64
         ensures { result ≡ turns_of self.now };
 
-    /// Begins a turn of the seat.
+    /// Begins a turn of the seat with this number.
     fn begin(&mut self, seat: u8)
         requires { seat < 32 }
         ensures { self.new ≡ begun self.old seat };

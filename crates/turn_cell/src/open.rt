@@ -1,8 +1,8 @@
-//! A new cell, with its seats.
+//! A new cell and its seats.
 
 ghost use Rattle.std.specs.Prelude.{◌≡◌, ◌≤◌, ◌<◌, ◌+◌, ◌-◌, [], ◌∷◌, length, Some, IfOk, IfErr, vec_len, vec_capacity};
 ghost use Rattle.turn_cell.specs.Histories.{IsFresh};
-ghost use Rattle.turn_cell.specs.Rule.{dealing};
+ghost use Rattle.turn_cell.specs.CellRule.{dealing};
 ghost use Rattle.turn_cell.specs.Seats.{AreNewFrom, AreNewSeats, IsDealer, IsOwn, cell_view, first_state, new_seat, seat_view};
 
 use crate::cell::TurnCell;
@@ -13,8 +13,8 @@ use atomic_table::{Refused, Table};
 use std::alloc::{AllocError, Global};
 use std::snapshot::Snapshot;
 
-/// The state of a cell that found no memory.
-fn home<S>(refused: Refused<Option<S>, Global>) -> S
+/// The state, out of a table that got no memory.
+fn refused_state<S>(refused: Refused<Option<S>, Global>) -> S
     requires { (state : S) × (refused.slots.items ≡ Some state ∷ []) }
     ensures { refused.slots.items ≡ Some result ∷ [] }
 {
@@ -25,7 +25,7 @@ fn home<S>(refused: Refused<Option<S>, Global>) -> S
 }
 
 impl<S: Chronicle> TurnCell<S> {
-    /// A cell of the state, and so many seats for it, in the order of their numbers from 0. A refusal hands the state back.
+    /// Makes a cell of the state and its `seats` seats, 1 to 32, numbered from 0 in their order. An error hands the state back.
     pub fn new(
         alloc: Global,
         state: S,
@@ -49,7 +49,7 @@ impl<S: Chronicle> TurnCell<S> {
         }
     }
 
-    /// A cell of the state, with its first seat.
+    /// Makes a cell of the state and its seat 0.
     fn open(alloc: Global, state: S, seats: u8) -> Result<(TurnCell<S>, Seat<S>), S>
         requires some { 1 ≤ seats }
         requires few { seats ≤ 32 }
@@ -66,12 +66,12 @@ impl<S: Chronicle> TurnCell<S> {
         };
         slots.push_reserved(Some(state));
         match Table::new(alloc, &[0, 0], slots, &origin) {
-            Ok((table, pass)) => Ok((TurnCell { table }, Seat { number: 0, pass })),
-            Err(refused) => Err(home(refused)),
+            Ok((table, token)) => Ok((TurnCell { table }, Seat { number: 0, token })),
+            Err(refused) => Err(refused_state(refused)),
         }
     }
 
-    /// The seat of the next number.
+    /// Makes the seat with the next number.
     fn deal(&self, first: &mut Seat<S>, number: u8) -> Seat<S>
         requires own { IsOwn self.now first.old }
         requires dealer { IsDealer self.now first.old number }
@@ -81,11 +81,11 @@ impl<S: Chronicle> TurnCell<S> {
         ensures dealer { IsDealer self.now first.new (number + 1) }
         ensures dealt { seat_view result ≡ new_seat (cell_view self.now) (first_state self.now) number }
     {
-        let pass = self.table.shared.split_seat::<Deal>(&mut first.pass);
-        Seat { number, pass }
+        let token = self.table.shared.split_seat::<Deal>(&mut first.token);
+        Seat { number, token }
     }
 
-    /// All seats of the cell, in the room for them.
+    /// Makes the other seats and returns all, in the buffer that was reserved for them.
     fn deal_all(&self, mut first: Seat<S>, seats: u8, mut room: Vec<Seat<S>>) -> Vec<Seat<S>>
         requires count { seats ≡ (cell_view self.now).seats }
         requires own { IsOwn self.now first }

@@ -1,33 +1,36 @@
 //! A seat of a cell.
 
 ghost use Rattle.std.specs.Prelude.{◌≡◌, ◌<◌};
-ghost use Rattle.turn_cell.specs.Views.{IsSits, IsSits-prop, number_in};
+ghost use Rattle.turn_cell.specs.Views.{IsActive, IsActive-prop, number_in};
 
 use crate::view::View;
 
-/// What a seat steps with.
-pub(crate) type Pass<S> = atomic_table::Seat<Option<S>, View<S>>;
+/// The table's seat, which each step of ours takes.
+pub(crate) type TableSeat<S> = atomic_table::Seat<Option<S>, View<S>>;
 
-/// The right to take turns at one cell, under a number of its own. It is in no turn unless a `Turn` has it.
+/// The right to take turns at one cell, under a number of its own. While a `Turn` borrows it, it is in that turn.
 pub struct Seat<S> {
     pub(crate) number: u8,
-    pub(crate) pass: Pass<S>,
-    ghost sits: { IsSits pass.me.0 } by { IsSits-prop pass.me.0 },
-    ghost numbered: { number ≡ number_in pass.me.0 },
+    pub(crate) token: TableSeat<S>,
+    ghost active: { IsActive token.me.0 } by { IsActive-prop token.me.0 },
+    ghost numbered: { number ≡ number_in token.me.0 },
     ghost few: { number < 32 },
 }
 
 impl<S> Drop for Seat<S> {
     fn drop(self) {
-        let Seat { number: _, pass: _ } = self;
+        let Seat {
+            number: _,
+            token: _,
+        } = self;
     }
 }
 
 impl<S> Seat<S> {
-    pub(crate) fn into_pass(self) -> Pass<S>
-        ensures { result ≡ self.pass }
+    pub(crate) fn into_token(self) -> TableSeat<S>
+        ensures { result ≡ self.token }
     {
-        let Seat { number: _, pass } = self;
-        pass
+        let Seat { number: _, token } = self;
+        token
     }
 }

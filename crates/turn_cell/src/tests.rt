@@ -2,10 +2,15 @@ ghost use Rattle.std.specs.Prelude.{◌≤◌};
 
 mod generic;
 mod numbers;
+mod others;
 mod race;
+mod tallies;
 
 use self::generic::{send, share};
+use self::others::look;
 use self::race::{open, race};
+use self::tallies::{Taken, take};
+use crate::SeatTallies;
 use std::alloc::{AllocError, Global};
 use std::test::Fail;
 
@@ -38,7 +43,7 @@ fn a_cell_is_shared_and_its_seats_are_sent(rt: HostRuntime) -> Result<(), Fail> 
     };
     assert_eq!(rt; share(&rt, &cell), (2, 2));
     let (mut zero, mut one) = send(&rt, zero, one);
-    cell.enter(&rt, &mut zero).leave();
+    look(&rt, &cell, &mut zero);
     assert_eq!(rt; cell.turns_done(&mut one), 1);
     Ok(())
 }
@@ -63,7 +68,7 @@ fn one_seat_counts_turns_while_another_has_one(rt: HostRuntime) -> Result<(), Fa
     Ok(())
 }
 
-// How many seats a cell gives, and how many turns it has passed once they are taken in.
+// How many seats a new cell has, and how many turns have passed once it is closed.
 fn seats_and_turns(alloc: Global, count: u8) -> Result<(usize, u64), AllocError>
     requires { (1 ≤ count) × (count ≤ 32) }
 {
@@ -77,5 +82,14 @@ fn a_cell_gives_the_seats_that_were_asked_for(rt: HostRuntime) -> Result<(), Fai
     assert_eq!(rt; seats_and_turns(rt.alloc(), 1)?, (1, 0));
     assert_eq!(rt; seats_and_turns(rt.alloc(), 2)?, (2, 0));
     assert_eq!(rt; seats_and_turns(rt.alloc(), 32)?, (32, 0));
+    Ok(())
+}
+
+#[test]
+fn a_tally_is_counted_for_its_seat_alone(rt: HostRuntime) -> Result<(), Fail> {
+    let mut tallies = SeatTallies::from_vec(vec![in rt.alloc(); Taken { slots: 0 }; 32]?);
+    take(&mut tallies, 31, 5);
+    take(&mut tallies, 31, 6);
+    assert_eq!(rt; [tallies.of(31).slots, tallies.of(0).slots], [11, 0]);
     Ok(())
 }

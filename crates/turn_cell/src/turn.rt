@@ -1,10 +1,10 @@
-//! A turn of a seat.
+//! A turn of a seat, and its end.
 
 use crate::cell::TurnCell;
 use crate::chronicle::Chronicle;
 use crate::seat::Seat;
 
-/// The turn of a seat, with the value of its cell. It is spent by `leave`.
+/// The turn of a seat, with the state of its cell. Only `leave` ends it.
 pub struct Turn<'a, S: Chronicle> {
     pub(crate) cell: &'a TurnCell<S>,
     pub(crate) seat: &'a mut Seat<S>,
@@ -17,7 +17,7 @@ impl<'a, S: Chronicle> Turn<'a, S> {
     ghost use Rattle.turn_cell.specs.Histories.{Changed};
     ghost use Rattle.turn_cell.specs.Seats.{InTurn, Grows, seat_view, left, state_of, taken, turn_seat};
 
-    /// Passes the turn, and puts the value back. The seat's `last` is then the state that this leaves.
+    /// Passes the turn and puts the state back, which becomes the seat's `last`.
     pub fn leave(self)
         requires turn { InTurn S.turns_of S.notes_of S.tally_of S.fixed_of self }
         requires changed { Changed S.turns_of S.notes_of S.tally_of S.fixed_of (turn_seat self).number (taken self) (state_of self) }

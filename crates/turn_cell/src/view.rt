@@ -1,4 +1,4 @@
-//! What each seat knows of the cell, the rule that ties it to the value, and what each step tells.
+//! The ghost state of a cell: what each seat knows, the rule that ties it to the value, and what each step tells.
 
 ghost use Rattle.std.specs.Prelude.{ℕ};
 
@@ -8,77 +8,77 @@ use std::collections::LinkedList;
 use std::marker::PhantomData;
 use std::snapshot::Snapshot;
 
-/// Where a seat stands: in no turn, with a ticket, or in the turn of its ticket, with the value that it found.
+/// A seat is in no turn, waits with a ticket, or has the value that it found at its ticket.
 pub enum Hold<S> {
     Free,
     Waits(u64),
     Has(u64, S),
 }
 
-/// What a seat knows. No value of it is made.
-pub struct Sitting<S> {
+/// What a seat knows. It exists in proofs alone.
+pub struct Known<S> {
     pub number: u8,
     pub seats: u8,
-    /// Of the first seat, how many seats were made.
+    /// For seat 0: how many seats were made.
     pub dealt: u64,
     /// How many turns it knows to have passed.
     pub turns: u64,
-    /// The state that its last turn left, and before it the first state.
+    /// The state that its last turn left; before its first turn, the cell's first state.
     pub last: S,
     pub hold: Hold<S>,
-    /// The seats that it took in, each with its last state.
+    /// The seats that it took in at the close, each with its last state.
     pub joined: LinkedList<(u64, S)>,
 }
 
-/// A seat's view. That of a seat that was taken in is spent.
+/// A seat's view. Once another seat has taken it in, its view is spent.
 pub enum View<S> {
-    Sits(Sitting<S>),
+    Active(Known<S>),
     Spent,
 }
 
-/// What a table is made for: so many seats, and the first state.
+/// What a cell is made from: the number of its seats and its first state.
 #[derive(Drop)]
 pub struct Origin<S> {
     pub seats: u8,
     pub state: Snapshot<S>,
 }
 
-/// The rule of the cell.
+/// The rule of the cell (`specs/CellRule.antt`).
 pub struct InTurns<S> {
     state: PhantomData<S>,
 }
 
 impl<S: Chronicle> TableRule<Option<S>, View<S>, Origin<S>> for InTurns<S> {
-    ghost use Rattle.turn_cell.specs.Rule.{Kept, first_view};
+    ghost use Rattle.turn_cell.specs.CellRule.{MeetsRule, first_view};
 
-    ghost holds = { λ key. Kept S.turns_of S.notes_of S.tally_of S.fixed_of key.seats key.state.value };
+    ghost holds = { λ key. MeetsRule S.turns_of S.notes_of S.tally_of S.fixed_of key.seats key.state.value };
 
     ghost first = { λ key. first_view key.seats key.state.value };
 }
 
-/// The ticket goes up, and the seat has the old one.
+/// The seat draws a ticket, and the next ticket is one more.
 pub struct Draw;
 
 impl<S> Play<Option<S>, View<S>> for Draw {
-    ghost use Rattle.turn_cell.specs.Plays.{drew};
+    ghost use Rattle.turn_cell.specs.StepOutcomes.{drew};
 
     ghost then = { drew };
 }
 
-/// The seat's ticket is served, and it takes the value.
+/// If the seat's ticket is served, the seat takes the value.
 pub struct Take;
 
 impl<S: Chronicle> Play<Option<S>, View<S>> for Take {
-    ghost use Rattle.turn_cell.specs.Plays.{took};
+    ghost use Rattle.turn_cell.specs.StepOutcomes.{took};
 
     ghost then = { took S.turns_of S.notes_of S.tally_of S.fixed_of };
 }
 
-/// The seat gives the value back, and the next ticket is served.
+/// The seat puts the value back, and the next ticket is served.
 pub struct Advance;
 
 impl<S: Chronicle> Play<Option<S>, View<S>> for Advance {
-    ghost use Rattle.turn_cell.specs.Plays.{advanced};
+    ghost use Rattle.turn_cell.specs.StepOutcomes.{advanced};
 
     ghost then = { advanced };
 }
@@ -87,28 +87,28 @@ impl<S: Chronicle> Play<Option<S>, View<S>> for Advance {
 pub struct Look;
 
 impl<S> Play<Option<S>, View<S>> for Look {
-    ghost use Rattle.turn_cell.specs.Plays.{looked};
+    ghost use Rattle.turn_cell.specs.StepOutcomes.{looked};
 
     ghost then = { looked };
 }
 
-/// The first seat makes the next one.
+/// Seat 0 makes the seat with the next number.
 pub struct Deal;
 
 impl<S> Split<View<S>> for Deal {
-    ghost use Rattle.turn_cell.specs.Rule.{dealer, newcomer};
+    ghost use Rattle.turn_cell.specs.CellRule.{dealer, newcomer};
 
     ghost left = { dealer };
 
     ghost right = { newcomer };
 }
 
-/// A seat takes another in.
+/// Seat 0 takes in another seat at the close.
 pub struct TakeIn;
 
 impl<S> Join<View<S>> for TakeIn {
     ghost use Rattle.turn_cell.specs.declared.view.View.TheVariants.{Spent};
-    ghost use Rattle.turn_cell.specs.Rule.{taken_in};
+    ghost use Rattle.turn_cell.specs.CellRule.{taken_in};
 
     ghost both = { taken_in };
 

@@ -54,7 +54,7 @@ fn write_all<R: Wait>(
     (Ok(()), seat)
 }
 
-/// A cell of no numbers, and so many seats.
+/// A cell of no numbers, with `seats` seats.
 pub fn open(alloc: Global, seats: u8) -> Result<(TurnCell<Numbers>, Vec<Seat<Numbers>>), AllocError>
     requires { (1 ≤ seats) × (seats ≤ 32) }
     ensures { IfOk result (λ made. ((cell_view made.0).seats ≡ seats) × ((state : Numbers) × (state.notes.items ≡ []) × ((k : ℕ) → slice_index state.written k ≡ 0) × AreNewSeats (cell_view made.0) state made.1.items)) }

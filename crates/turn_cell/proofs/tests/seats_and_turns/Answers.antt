@@ -1,4 +1,4 @@
-use Rattle.turn_cell.proofs.Laws.{AreNewFrom-idle}
+use Rattle.turn_cell.proofs.SeatLists.{AreNewFrom-idle}
 use Rattle.turn_cell.proofs.tests.seats_and_turns.Goals as goal
 
 pub close-requires : goal.close-requires

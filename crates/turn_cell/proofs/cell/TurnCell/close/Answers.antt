@@ -1,8 +1,8 @@
 use Rattle.std.proofs.Common.{[], arith, refl, sym, ap, append-nil, ◌∙◌}
 use Rattle.turn_cell.specs.Seats.{cell_view}
-use Rattle.turn_cell.proofs.Closing.{there_is, closed_with}
-use Rattle.turn_cell.proofs.Seating.{whole_of, front, next_idle, is_idle}
-use Rattle.turn_cell.proofs.Sittings.{me_is, me_sitting}
+use Rattle.turn_cell.proofs.ClosedValue.{there_is, closed_with}
+use Rattle.turn_cell.proofs.ClosedSeats.{whole_of, front, next_idle, is_idle}
+use Rattle.turn_cell.proofs.ViewLemmas.{me_is, me_known}
 use Rattle.turn_cell.proofs.cell.TurnCell.close.Goals as goal
 
 pub loop-seat-init : goal.loop-seat-init
@@ -16,7 +16,7 @@ loop-seat-init g c =
       gone = [];
       whole = sym (append-nil _);
       same = (refl, refl);
-      me = me_is _ first.sits _ idle.1;
+      me = me_is _ first.active _ idle.1;
     }
 
 pub take_in-requires-clause-own : goal.take_in-requires-clause-own
@@ -38,7 +38,7 @@ take_in-requires-clause-idle g c =
     let whole = whole_of cell.seats _ _ first seats.0 c.args.self.some_seats c.remove-first.ensures.value c.remove-first.ensures.items in
     let idle = front cell _ _ _ seats.1 whole in
     let free = is_idle cell first idle.0 in (
-      (ap (λ v. v.hold) (me_sitting _ c.loop-seat.first.sits _ _ i.me) ∙ free.0, ap (λ m. m.1) i.me),
+      (ap (λ v. v.hold) (me_known _ c.loop-seat.first.active _ _ i.me) ∙ free.0, ap (λ m. m.1) i.me),
       is_idle cell c.in-Some.seat (next_idle cell _ _ _ _ c.in-Some.seat idle.2 i.whole c.in-Some.ensures.items),
     )
 
@@ -55,7 +55,7 @@ unwrap-requires g c =
       whole = whole;
       parts = i.whole;
       none = omega (arith, c.loop-seat.seats.ok.0, c.in_default.ensures.cases.0);
-      knows = ap (λ p. p.me.0) c.into_pass.ensures ∙ ap (λ m. m.0) i.me;
+      knows = ap (λ p. p.me.0) c.into_token.ensures ∙ ap (λ m. m.0) i.me;
       final = c.close_with-closed.ensures.values.2;
     } c.take-slot.ensures.value
 
@@ -72,6 +72,6 @@ returns g c =
       whole = whole;
       parts = i.whole;
       none = omega (arith, c.loop-seat.seats.ok.0, c.in_default.ensures.cases.0);
-      knows = ap (λ p. p.me.0) c.into_pass.ensures ∙ ap (λ m. m.0) i.me;
+      knows = ap (λ p. p.me.0) c.into_token.ensures ∙ ap (λ m. m.0) i.me;
       final = c.close_with-closed.ensures.values.2;
     } c.take-slot.ensures.value c.unwrap.ensures

@@ -1,6 +1,6 @@
 use Rattle.std.proofs.Common.{◌≡◌, ◌+◌, [], ◌∷◌, length, arith, sym, ap, subst, ◌∙◌, length-append}
 use Rattle.turn_cell.specs.Seats.{AreNewFrom, cell_view, first_state, new_seat}
-use Rattle.turn_cell.proofs.Viewing.{AreNewFrom-push}
+use Rattle.turn_cell.proofs.SeatLists.{AreNewFrom-push}
 use Rattle.turn_cell.proofs.cell.TurnCell.deal_all.Goals as goal
 
 pub loop-number-preserved : goal.loop-number-preserved

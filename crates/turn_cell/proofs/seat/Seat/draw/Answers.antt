@@ -1,11 +1,10 @@
-use Rattle.std.proofs.Common.{refl, rules, ap, ◌∙◌}
-use Rattle.turn_cell.proofs.Sittings.{me_is}
-use Rattle.turn_cell.proofs.Drawing.{draws_as, drawn, drawn_keeps}
+use Rattle.std.proofs.Common.{refl, rules, ◌∙◌}
+use Rattle.turn_cell.proofs.ViewLemmas.{me_is}
+use Rattle.turn_cell.proofs.TicketDrawn.{draws_as, drawn, drawn_keeps}
 use Rattle.turn_cell.proofs.seat.Seat.draw.Goals as goal
-use Rattle.turn_cell.proofs.seat.Seat.draw.Goals.{then-ticket-lt18446744073709551615+else-found-ticket, else-ticket-lt18446744073709551615}
 
 pub loop-init : goal.loop-init
-loop-init g c = ((refl, refl), me_is _ c.args.self.now.sits _ c.requires.idle.1)
+loop-init g c = ((refl, refl), me_is _ c.args.self.now.active _ c.requires.idle.1)
 
 pub compare_exchange-found-requires : goal.compare_exchange-found-requires
 compare_exchange-found-requires g c = (c.loop.invariant.0.0 ∙ c.requires.own, search rules, draws_as _ _ _ _ _ _ _ _ _ _ _ c.loop.invariant.1 c.requires.idle.0)
@@ -13,21 +12,10 @@ compare_exchange-found-requires g c = (c.loop.invariant.0.0 ∙ c.requires.own, 
 pub invariant_of-self : goal.invariant_of-self
 invariant_of-self g c =
     let keeps = drawn_keeps _ _ _ _ _ _ c.loop.self.numbered c.loop.invariant.1 c.requires.idle.0 c.compare_exchange-found.ensures.2 in
-    record { sits = keeps.0; numbered = keeps.1; few = c.loop.self.few }
+    record { active = keeps.0; numbered = keeps.1; few = c.loop.self.few }
 
 pub returns-then-found-ticket-clause-same : goal.returns-then-found-ticket-clause-same
 returns-then-found-ticket-clause-same g c = (c.compare_exchange-found.ensures.0 ∙ c.loop.invariant.0.0, c.loop.invariant.0.1)
 
 pub returns-then-found-ticket-clause-drawn : goal.returns-then-found-ticket-clause-drawn
 returns-then-found-ticket-clause-drawn g c = (drawn _ _ _ _ _ c.loop.invariant.1 c.requires.idle.0 c.compare_exchange-found.ensures.2).0 c.if-found-ticket.true
-
-pub loop-preserved : goal.loop-preserved
-loop-preserved g c =
-    let i = c.loop.invariant in
-    elim c.if-ticket-lt18446744073709551615.branch [
-      | then-ticket-lt18446744073709551615+else-found-ticket w ↦ (
-        (ap (λ s. s.pass.table_id) w.self-is ∙ (w.compare_exchange-found.ensures.0 ∙ i.0.0), ap (λ s. s.number) w.self-is ∙ i.0.1),
-        ap (λ s. s.pass.me) w.self-is ∙ (drawn _ _ _ _ _ i.1 c.requires.idle.0 w.compare_exchange-found.ensures.2).1 w.if-found-ticket.false,
-      )
-      | else-ticket-lt18446744073709551615 w ↦ ((ap (λ s. s.pass.table_id) w.self-is ∙ i.0.0, ap (λ s. s.number) w.self-is ∙ i.0.1), ap (λ s. s.pass.me) w.self-is ∙ i.1)
-    ]

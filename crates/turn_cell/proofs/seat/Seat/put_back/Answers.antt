@@ -1,6 +1,6 @@
 use Rattle.std.proofs.Common.{refl, rules, ◌∙◌}
-use Rattle.turn_cell.proofs.Taking.{swapped}
-use Rattle.turn_cell.proofs.Leaving.{leaves_as}
+use Rattle.turn_cell.proofs.ValueTaken.{swapped}
+use Rattle.turn_cell.proofs.TurnPassed.{leaves_as}
 use Rattle.turn_cell.proofs.seat.Seat.put_back.Goals as goal
 
 pub store-requires : goal.store-requires

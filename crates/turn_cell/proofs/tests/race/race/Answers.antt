@@ -1,7 +1,7 @@
 use Rattle.std.proofs.Common.{ℕ, ◌≤◌, arith}
 use Rattle.turn_cell.specs.declared.chronicle.Note.{Note}
-use Rattle.turn_cell.proofs.Counts.{small_entries}
-use Rattle.turn_cell.proofs.Laws.{every_note}
+use Rattle.turn_cell.proofs.WrittenNumbers.{small_entries}
+use Rattle.turn_cell.proofs.NoteLemmas.{every_note}
 use Rattle.turn_cell.proofs.tests.race.race.Goals as goal
 
 pub returns-clause-small : goal.returns-clause-small

@@ -1,5 +1,5 @@
 use Rattle.std.proofs.Common.{◌∙◌}
-use Rattle.turn_cell.proofs.Counts.{next_counted, next_written}
+use Rattle.turn_cell.proofs.WrittenNumbers.{next_counted, next_written}
 use Rattle.turn_cell.proofs.tests.race.write_all.Goals as goal
 
 pub loop-done-preserved : goal.loop-done-preserved

@@ -1,4 +1,4 @@
-use Rattle.turn_cell.proofs.Counts.{zeros_at}
+use Rattle.turn_cell.proofs.WrittenNumbers.{zeros_at}
 use Rattle.turn_cell.proofs.tests.numbers.Numbers.new.Goals as goal
 
 pub returns-clause-written : goal.returns-clause-written

@@ -1,0 +1,2 @@
+pub mod Mapped
+pub use Rattle.thread_map.specs.Mapped.{AreMapped}
