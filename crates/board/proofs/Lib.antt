@@ -1,5 +1,5 @@
-mod Stamping
-mod Keeping
-mod Opening
-mod Changing
-pub mod Viewing
+mod StampedEntries
+mod EntryAdded
+mod BoardFields
+mod StatesAfterOrder
+pub mod ViewLemmas

@@ -1,14 +1,14 @@
 -- What contracts see of a board.
 use Rattle.std.specs.Prelude.{ℕ, ◌-◌, List, [], ◌∷◌, ◌++◌, map}
-use Rattle.domains.specs.Cluster.{Cluster}
-use Rattle.board_log.specs.declared.entry.BoardEntry.{BoardEntry}
+use Rattle.domains.specs.Shape.{Shape}
+use Rattle.board_history.specs.declared.entry.BoardEntry.{BoardEntry}
 use Rattle.turn_cell.specs.declared.chronicle.Note.{Note}
-use Rattle.board.specs.declared.stamp.Stamp.{Stamp}
+use Rattle.board.specs.declared.entry_stamp.EntryStamp.{EntryStamp}
 
--- the cluster, how many entries the log may have, the turns passed and the seat of the turn, the entries with their turns and
--- seats, and how many more there is room for without new memory
+-- the cluster, the most entries of the log, the number of turns passed, the seat whose turn it is, the entries with their turns
+-- and seats, and how many more there is memory for
 pub record History : Type 0 where
-  pub shape : Cluster
+  pub shape : Shape
   pub room : ℕ
   pub turns : ℕ
   pub seat : ℕ
@@ -24,7 +24,7 @@ abbrev pub log_of : History → List BoardEntry
 log_of h = entries_of h.notes
 
 -- each entry with its stamp
-abbrev pub stamped : List Stamp → List BoardEntry → List (Note BoardEntry)
+abbrev pub stamped : List EntryStamp → List BoardEntry → List (Note BoardEntry)
 stamped [] es = []
 stamped (s ∷ ss) [] = []
 stamped (s ∷ ss) (e ∷ es) = record { turn = s.turn; seat = s.seat; entry = e } ∷ stamped ss es

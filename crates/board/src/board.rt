@@ -1,20 +1,20 @@
 //! The board: the log of orders to drives, and the states that it leaves.
 
 ghost use Rattle.std.specs.Prelude.{◌≡◌, ℕ, ◌+◌, ◌<◌, ◌≤◌, ◌↔◌, [], IsErrOf, IfOk, IsOk, OnOk, length, take};
-ghost use Rattle.board_log.specs.Board.{IsLegalBoardLog, state_after};
+ghost use Rattle.board_history.specs.Board.{IsLegalBoardLog, state_after};
 ghost use Rattle.board.specs.History.{entries_of, log_of};
 
-use crate::stamp::Stamp;
-use crate::states::States;
+use crate::drive_states::DriveStates;
+use crate::entry_stamp::EntryStamp;
 use crate::transitions::after_order;
-use board_log::{BoardEntry, State};
+use board_history::{BoardEntry, State};
 use domains::{DriveId, DriveSet, Shape};
 use lists::List;
 use std::alloc::{AllocError, Global};
 use std::marker::Model;
 use thiserror::Error;
 
-/// Why a log got no room.
+/// Why `reserve` made no room.
 #[derive(Clone, Copy, Debug, PartialEq, Eq, Error)]
 pub enum Grow {
     #[error("the log is full")]
@@ -31,14 +31,14 @@ pub struct Board {
     pub(crate) turns: u64,
     pub(crate) seat: u8,
     pub(crate) entries: Vec<BoardEntry>,
-    pub(crate) stamps: Vec<Stamp>,
-    pub(crate) states: States,
+    pub(crate) stamps: Vec<EntryStamp>,
+    pub(crate) states: DriveStates,
 }
 
 impl Model for Board {
     ghost use Rattle.std.specs.Prelude.{◌-◌, min, vec_len, vec_capacity};
     ghost use Rattle.board.specs.History.{History, stamped};
-    ghost use Rattle.board.specs.Kept.{Keeps};
+    ghost use Rattle.board.specs.BoardInvariant.{BoardInvariant};
 
     ghost Value = { History };
 
@@ -51,7 +51,7 @@ impl Model for Board {
       spare = min (min (vec_capacity b.entries) (vec_capacity b.stamps)) b.room - vec_len b.entries;
     } };
 
-    ghost invariant = { λ b. Keeps b.shape b.room b.entries.items b.stamps.items b.states };
+    ghost invariant = { λ b. BoardInvariant b.shape b.room b.entries.items b.stamps.items b.states };
 }
 
 impl Board {
@@ -66,14 +66,14 @@ impl Board {
             seat: 0,
             entries: Vec::new(alloc),
             stamps: Vec::new(alloc),
-            states: States {
+            states: DriveStates {
                 up: DriveSet::all(shape),
                 gone: DriveSet::new(),
             },
         })
     }
 
-    /// Makes room for so many more entries.
+    /// Makes room for `entries` more entries.
     pub fn reserve(&mut self, entries: u32) -> Result<(), Grow>
         ensures ok { OnOk result (entries ≤ self.new.spare) }
         ensures log_full { IsErrOf result Grow.LogFull ↔ (self.old.room < length self.old.notes + entries) }

@@ -1,7 +1,7 @@
-//! What a board tells of its turns.
+//! A board as the state of a turn cell: its notes are the entries.
 
 use crate::board::Board;
-use board_log::BoardEntry;
+use board_history::BoardEntry;
 use domains::Shape;
 use turn_cell::Chronicle;
 

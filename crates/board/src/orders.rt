@@ -1,17 +1,17 @@
-//! The orders to the board. Each asks for one spare entry (`Board::reserve`), and takes no memory.
+//! The orders to the board. Each needs room for one entry (`Board::reserve`), and allocates nothing.
 
 ghost use Rattle.std.specs.Prelude.{◌≡◌, ◌≤◌, true};
-ghost use Rattle.domains.specs.Cluster.{is_of};
-ghost use Rattle.board_log.specs.Board.{IsBoardStep, IsWithin};
+ghost use Rattle.domains.specs.Shape.{is_of};
+ghost use Rattle.board_history.specs.Board.{IsBoardStep, IsWithin};
 ghost use Rattle.board.specs.History.{log_of, with_entry};
 
 use crate::board::Board;
-use crate::stamp::Stamp;
-use board_log::{BoardEntry, Effect, Order};
+use crate::entry_stamp::EntryStamp;
+use board_history::{BoardEntry, Effect, Order};
 use domains::{By, DriveId, NodeId};
 
 impl Board {
-    /// Takes the drive away for good.
+    /// The drive is gone for good.
     pub fn fail(&mut self, by: By, drive: DriveId) -> Effect
         requires spare { 1 ≤ self.old.spare }
         requires within { is_of self.old.shape drive ≡ true }
@@ -21,7 +21,7 @@ impl Board {
         self.give(by, Order::Fail(drive))
     }
 
-    /// Takes all drives of the node away for good.
+    /// All drives of the node are gone for good.
     pub fn fail_node(&mut self, by: By, node: NodeId) -> Effect
         requires spare { 1 ≤ self.old.spare }
         requires some { 1 ≤ node }
@@ -32,7 +32,7 @@ impl Board {
         self.give(by, Order::FailNode(node))
     }
 
-    /// Takes the drive down, if it is up.
+    /// The drive goes down, if it is up.
     pub fn down(&mut self, by: By, drive: DriveId) -> Effect
         requires spare { 1 ≤ self.old.spare }
         requires within { is_of self.old.shape drive ≡ true }
@@ -42,7 +42,7 @@ impl Board {
         self.give(by, Order::Down(drive))
     }
 
-    /// Takes the drive up, if it is down.
+    /// The drive comes up, if it is down.
     pub fn up(&mut self, by: By, drive: DriveId) -> Effect
         requires spare { 1 ≤ self.old.spare }
         requires within { is_of self.old.shape drive ≡ true }
@@ -52,7 +52,7 @@ impl Board {
         self.give(by, Order::Up(drive))
     }
 
-    /// Carries an order out, and writes it at the end of the log.
+    /// Carries out an order, and appends it to the log.
     fn give(&mut self, by: By, order: Order) -> Effect
         requires spare { 1 ≤ self.old.spare }
         requires within { IsWithin self.old.shape order }
@@ -60,7 +60,7 @@ impl Board {
         ensures legal { IsBoardStep self.old.shape (log_of self.old) (record { by = by; order = order; effect = result }) }
     {
         let effect = self.states.give(self.shape, &order);
-        self.stamps.push_reserved(Stamp {
+        self.stamps.push_reserved(EntryStamp {
             turn: self.turns,
             seat: self.seat,
         });

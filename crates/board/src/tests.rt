@@ -41,45 +41,6 @@ fn order(board: &mut Board, shape: Shape, order: Order, call: u32) -> Result<Eff
     }
 }
 
-// The effects are those that the rules of the board give by hand: a drive that is gone stays gone, `down` takes a drive
-// that is up down, `up` one that is down up, and a node's loss changes something where one of its drives is not gone.
-#[test]
-fn an_order_changes_a_drive_or_tells_the_state_that_stays(rt: HostRuntime) -> Result<(), Fail> {
-    let shape = small();
-    let mut board = Board::new(rt.alloc(), small(), 16)?;
-    let gone = Effect::NoChange { is: State::Gone };
-    let table = [
-        (Order::Fail(drive(1, 1)), Effect::Changed),
-        (Order::Fail(drive(1, 1)), gone),
-        (Order::Down(drive(1, 2)), Effect::Changed),
-        (
-            Order::Down(drive(1, 2)),
-            Effect::NoChange { is: State::Down },
-        ),
-        (Order::Up(drive(1, 1)), gone),
-        (Order::Down(drive(1, 1)), gone),
-        (Order::Up(drive(2, 1)), Effect::NoChange { is: State::Up }),
-        (Order::FailNode(NodeId::new(1)), Effect::Changed),
-        (Order::FailNode(NodeId::new(1)), gone),
-        (Order::Up(drive(1, 2)), gone),
-        (Order::Down(drive(2, 1)), Effect::Changed),
-        (Order::Up(drive(2, 1)), Effect::Changed),
-        (Order::Up(drive(2, 1)), Effect::NoChange { is: State::Up }),
-    ];
-    let mut call: u32 = 0;
-    for (given, effect) in table {
-        call = call.wrapping_add(1);
-        assert_eq!(rt;
-            order(&mut board, shape, given, call)?,
-            effect,
-            "order {call}"
-        );
-    }
-    let log = board.close();
-    assert_eq!(rt; log.len(), 13);
-    Ok(())
-}
-
 #[test]
 fn a_log_is_full_at_its_room_and_each_epoch_keeps_its_states(rt: HostRuntime) -> Result<(), Fail> {
     let shape = small();

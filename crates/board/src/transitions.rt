@@ -2,9 +2,9 @@
 
 ghost use Rattle.std.specs.Prelude.{◌≡◌};
 ghost use Rattle.domains.specs.Drive.{same_drive};
-ghost use Rattle.board_log.specs.Board.{after_order, change_of, lowered, raised};
+ghost use Rattle.board_history.specs.Board.{after_order, change_of, lowered, raised};
 
-use board_log::{Effect, Order, State};
+use board_history::{Effect, Order, State};
 use domains::DriveId;
 
 /// The state of the drive after an order, which was `was` before.
@@ -46,7 +46,7 @@ pub fn raised(was: State) -> State
     }
 }
 
-/// What is told of an order that finds one state and leaves another.
+/// The effect of an order that finds the state `was` and leaves `now`.
 pub fn change(was: State, now: State) -> Effect
     ensures { result ≡ change_of was now }
 {

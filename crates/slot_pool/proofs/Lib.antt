@@ -1,3 +1,2 @@
-mod Turning
-mod Opening
-pub mod Laws
+pub mod NewPool
+pub mod ClosedPool

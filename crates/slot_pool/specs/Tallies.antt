@@ -6,15 +6,15 @@ use Rattle.slot_pool.specs.declared.tally.Tally.{Tally}
 abbrev pub no_tally : Tally
 no_tally = record { taken = 0; given = 0; empties = 0; drawn = 0 }
 
--- the seat took so many slots
+-- the tally once the seat took this many slots more
 abbrev pub took : ℕ → Tally → Tally
 took slots t = record t { taken = (t.taken + slots) % 2 ^ 64; drawn = min (t.drawn + slots) (2 ^ 64 - 1) }
 
--- it gave a slot
+-- the tally once it gave a slot
 abbrev pub gave : Tally → Tally
 gave t = record t { given = (t.given + 1) % 2 ^ 64 }
 
--- it was answered that no slot was free
+-- the tally once it found no slot free
 abbrev pub found_none : Tally → Tally
 found_none t = record t { empties = min (t.empties + 1) (2 ^ 64 - 1) }
 
@@ -22,7 +22,7 @@ found_none t = record t { empties = min (t.empties + 1) (2 ^ 64 - 1) }
 abbrev pub tally_at : List Tally → ℕ → Tally
 tally_at tallies seat = slice_index_or tallies seat no_tally
 
--- the tallies, with what a call has counted for the seat of this number
+-- the tallies, once the seat of this number has counted
 abbrev pub with_tally : ℕ → (Tally → Tally) → List Tally → List Tally
 with_tally seat counted tallies = slice_set tallies seat (counted (tally_at tallies seat))
 
@@ -34,7 +34,7 @@ numbers_of t = t.taken ∷ t.given ∷ t.empties ∷ t.drawn ∷ []
 abbrev pub IsEven : Tally → Type 0
 IsEven t = t.taken ≡ t.given
 
--- a seat with this tally took so many slots more than it gave, modulo 2^64
+-- a seat with this tally took `kept` slots more than it gave, modulo 2^64
 abbrev pub HasKept : ℕ → Tally → Type 0
 HasKept kept t = t.taken % 2 ^ 64 ≡ (t.given + kept) % 2 ^ 64
 
@@ -42,8 +42,8 @@ HasKept kept t = t.taken % 2 ^ 64 ≡ (t.given + kept) % 2 ^ 64
 abbrev pub kept_of : Tally → ℕ
 kept_of t = (t.taken + 2 ^ 64 - t.given % 2 ^ 64) % 2 ^ 64
 
--- the free slots of a drive with so many and what all seats took and gave add up: modulo 2^64 to the drive's slots, and as
--- far as the counts that stop tell to at least these. Where a seat found none, the seats took them all.
+-- the free slots of a drive of `slots` and what all seats took and gave add up to the drive's slots: exactly, modulo 2^64; and
+-- at least, by the counts that stop. If a seat found none, the seats took them all.
 pub record AddUp (slots free : ℕ) (tallies : List Tally) : Type 0 where
   pub balanced : (free + sum_by (λ t. t.taken) tallies) % 2 ^ 64 ≡ (slots + sum_by (λ t. t.given) tallies) % 2 ^ 64
   pub covered : slots ≤ free + sum_by (λ t. t.drawn) tallies

@@ -1,11 +1,11 @@
-//! A pool as the state of a turn cell: it makes no notes, and counts for each seat.
+//! A pool as the state of a turn cell: it keeps no notes, and a tally for each seat.
 
 use crate::pool::Pool;
 use domains::DriveId;
 use flex_io::Slot;
 use turn_cell::Chronicle;
 
-/// What no turn changes of a pool: its drive, and how many slots the drive has.
+/// What no turn of a pool changes: its drive, and how many slots the drive has.
 #[derive(Clone, Copy, Debug, PartialEq, Eq)]
 pub struct DriveSlots {
     pub drive: DriveId,

@@ -1,20 +1,22 @@
 //! The free slots of one drive.
 
 ghost use Rattle.std.specs.Prelude.{◌≡◌, ◌≢◌, ◌↔◌, ◌+◌, ◌<◌, ◌≤◌, [], ◌∷◌, ◌++◌, length, reverse, replicate, IsOk, IfOk, IfErr, OnOk, OnErr, vec_len, vec_capacity};
-ghost use Rattle.slot_pool.specs.Places.{spot_of, IsOn, IsSpot};
+ghost use Rattle.domains.specs.Place.{IsPlace};
+ghost use Rattle.held_slots.specs.Slots.{place_from, IsOn};
 ghost use Rattle.slot_pool.specs.Tallies.{took, gave, found_none, no_tally};
 ghost use Rattle.slot_pool.specs.Pools.{counted, IsPool, AreSlotsOf};
 
-use crate::empty::Empty;
-use crate::held::Held;
-use crate::tallies::Tallies;
+use crate::tallies::{count_empty, count_given, count_taken, new_tallies};
+use crate::tally::Tally;
 use domains::DriveId;
 use flex_io::Slot;
+use held_slots::{Empty, Held};
 use lists::List;
 use std::alloc::{AllocError, Global};
 use std::marker::Model;
+use turn_cell::SeatTallies;
 
-/// The free slots of a drive, as a stack, and what each seat took and gave. Contracts see a `PoolView`.
+/// The free slots of a drive as a stack, and what each seat took and gave. Contracts see a `PoolView`.
 #[derive(Drop)]
 pub struct Pool<S: Slot + Send + Drop> {
     pub(crate) turns: u64,
@@ -22,7 +24,7 @@ pub struct Pool<S: Slot + Send + Drop> {
     drive: DriveId,
     slots: u16,
     free: Vec<S>,
-    tallies: Tallies,
+    tallies: SeatTallies<Tally>,
 }
 
 impl<S: Slot + Send + Drop> Model for Pool<S> {
@@ -40,7 +42,7 @@ impl<S: Slot + Send + Drop> Model for Pool<S> {
       seat = p.seat;
     } };
 
-    // There is memory for all slots of the drive.
+    // The stack has memory for all slots of the drive, so `give` never allocates.
     ghost invariant = { λ p. IsPool S.place_of (record {
       drive = p.drive;
       slots = p.slots;
@@ -52,7 +54,7 @@ impl<S: Slot + Send + Drop> Model for Pool<S> {
 }
 
 impl<S: Slot + Send + Drop> Pool<S> {
-    /// A pool of all slots of a drive, with slot 0 on top. A refusal hands the slots back.
+    /// A pool of all slots of a drive, with slot 0 on top. An `Err` hands the slots back.
     pub fn new(
         alloc: Global,
         drive: DriveId,
@@ -70,7 +72,7 @@ impl<S: Slot + Send + Drop> Pool<S> {
         }) }
         ensures kept { IfErr result (λ refused. refused.1 ≡ slots) }
     {
-        let Ok(tallies) = Tallies::new(alloc) else {
+        let Ok(tallies) = new_tallies(alloc) else {
             return Err((AllocError, slots));
         };
         let count = slots.len() as u16;
@@ -87,27 +89,27 @@ impl<S: Slot + Send + Drop> Pool<S> {
         })
     }
 
-    /// Takes the slot on top. `Empty` has the number of turns that had passed.
+    /// Pops the slot on top, or returns `Empty` with the number of turns passed.
     pub fn take(&mut self) -> Result<Held<S>, Empty>
         ensures ok { IfOk result (λ held. self.old.free ≡ self.new.free ++ held ∷ []) }
-        ensures place { IfOk result (λ held. IsSpot (spot_of (S.place_of held))
-            × IsOn self.old.drive self.old.slots (spot_of (S.place_of held))) }
+        ensures place { IfOk result (λ held. IsPlace (place_from (S.place_of held))
+            × IsOn self.old.drive self.old.slots (place_from (S.place_of held))) }
         ensures counted { OnOk result (self.new ≡ counted (took 1) self.new.free self.old) }
         ensures empty { IfErr result (λ empty. (empty.turn ≡ self.old.turns) × (self.old.free ≡ [])) }
         ensures kept { OnErr result (self.new ≡ counted found_none self.old.free self.old) }
         ensures pool { IsPool S.place_of self.new }
     {
         let Some(slot) = self.free.pop() else {
-            self.tallies.found_none(self.seat);
+            count_empty(&mut self.tallies, self.seat);
             return Err(Empty { turn: self.turns });
         };
-        self.tallies.took(self.seat, 1);
+        count_taken(&mut self.tallies, self.seat, 1);
         Ok(Held::new(slot))
     }
 
-    /// Puts a slot of the drive on top. A pool with all slots of its drive has no room, and hands the slot back.
+    /// Pushes a slot of the drive. A pool that has all slots of its drive hands the slot back.
     pub fn give(&mut self, held: Held<S>) -> Result<(), (AllocError, Held<S>)>
-        requires { IsOn self.old.drive self.old.slots (spot_of (S.place_of held)) }
+        requires { IsOn self.old.drive self.old.slots (place_from (S.place_of held)) }
         ensures ok { OnOk result (self.new ≡ counted gave (self.old.free ++ held ∷ []) self.old) }
         ensures kept { IfErr result (λ refused. (self.new ≡ self.old) × (refused.1 ≡ held)) }
         ensures accepts { IsOk result ↔ (length self.old.free < self.old.slots) }
@@ -117,11 +119,11 @@ impl<S: Slot + Send + Drop> Pool<S> {
             return Err((AllocError, held));
         }
         self.free.push_reserved(held.spend());
-        self.tallies.gave(self.seat);
+        count_given(&mut self.tallies, self.seat);
         Ok(())
     }
 
-    /// Takes all free slots, in the order in which `take` gives them.
+    /// Takes all free slots, in the order in which `take` would pop them.
     pub fn take_all(&mut self, alloc: Global) -> Result<List<Held<S>>, AllocError>
         ensures ok { IfOk result (λ all. all ≡ reverse self.old.free) }
         ensures counted { OnOk result (self.new ≡ counted (took (length self.old.free)) [] self.old) }
@@ -133,7 +135,7 @@ impl<S: Slot + Send + Drop> Pool<S> {
         Ok(List::from_vec(all))
     }
 
-    /// Takes all free slots, in the order in which `take` gives them, to the end of a vector that has room for them.
+    /// Appends all free slots to a vector that has room for them, in the order in which `take` would pop them.
     pub fn take_all_into(&mut self, all: &mut Vec<Held<S>>)
         requires room { vec_len all.old + length self.old.free ≤ vec_capacity all.old }
         ensures taken { all.new.items ≡ all.old.items ++ reverse self.old.free }
@@ -142,11 +144,11 @@ impl<S: Slot + Send + Drop> Pool<S> {
         ensures pool { IsPool S.place_of self.new }
     {
         let count = self.free.len();
-        take_down(&mut self.free, all);
-        self.tallies.took(self.seat, count as u64);
+        pop_all(&mut self.free, all);
+        count_taken(&mut self.tallies, self.seat, count as u64);
     }
 
-    /// The drive that the slots are on.
+    /// The drive of the slots.
     pub fn drive(&self) -> DriveId
         ensures value { result ≡ self.now.drive }
         ensures pool { IsPool S.place_of self.now }
@@ -179,8 +181,8 @@ impl<S: Slot + Send + Drop> Pool<S> {
     }
 }
 
-/// Takes all slots off the stack, from its top, to the end of the room for them.
-fn take_down<S>(free: &mut Vec<S>, all: &mut Vec<Held<S>>)
+/// Pops all slots of the stack into the room for them.
+fn pop_all<S>(free: &mut Vec<S>, all: &mut Vec<Held<S>>)
     requires { vec_len all.old + vec_len free.old ≤ vec_capacity all.old }
     ensures all { all.new.items ≡ all.old.items ++ reverse free.old.items }
     ensures room { vec_capacity all.new ≡ vec_capacity all.old }

@@ -1,58 +1,43 @@
-//! The tallies of all seats of a pool.
+//! What a pool counts in a turn, in the tally of the seat.
 
-ghost use Rattle.std.specs.Prelude.{◌≡◌, ◌<◌, length, replicate, IfOk};
+ghost use Rattle.std.specs.Prelude.{◌≡◌, ◌<◌, replicate, IfOk};
 ghost use Rattle.slot_pool.specs.Tallies.{took, gave, found_none, no_tally, with_tally};
 
 use crate::tally::Tally;
 use std::alloc::{AllocError, Global};
-use std::marker::Model;
+use turn_cell::SeatTallies;
 
-/// A tally for each of 32 seats. Contracts see them in the order of the seats' numbers.
-#[derive(Drop)]
-pub(crate) struct Tallies {
-    of_seats: Vec<Tally>,
+/// The most seats of a cell.
+const SEATS: usize = 32;
+
+/// The tallies before the first turn.
+pub(crate) fn new_tallies(alloc: Global) -> Result<SeatTallies<Tally>, AllocError>
+    ensures { IfOk result (λ tallies. tallies ≡ replicate 32 no_tally) }
+{
+    let of_seats = vec![in alloc; Tally::NONE; SEATS]?;
+    Ok(SeatTallies::from_vec(of_seats))
 }
 
-impl Model for Tallies {
-    ghost use Rattle.std.specs.Prelude.{◌≡◌, List, length};
-    ghost use Rattle.slot_pool.specs.declared.tally.Tally.{Tally};
-
-    ghost Value = { List Tally };
-
-    ghost view = { λ t. t.of_seats.items };
-
-    ghost invariant = { λ t. length t.of_seats.items ≡ 32 };
+pub(crate) fn count_taken(tallies: &mut SeatTallies<Tally>, seat: u8, slots: u64)
+    requires { seat < 32 }
+    ensures { tallies.new ≡ with_tally seat (took slots) tallies.old }
+{
+    let tally = tallies.of_mut(seat);
+    *tally = tally.took(slots);
 }
 
-impl Tallies {
-    pub(crate) fn new(alloc: Global) -> Result<Tallies, AllocError>
-        ensures { IfOk result (λ tallies. tallies ≡ replicate 32 no_tally) }
-    {
-        let of_seats = vec![in alloc; Tally::NONE; 32]?;
-        Ok(Tallies { of_seats })
-    }
+pub(crate) fn count_given(tallies: &mut SeatTallies<Tally>, seat: u8)
+    requires { seat < 32 }
+    ensures { tallies.new ≡ with_tally seat gave tallies.old }
+{
+    let tally = tallies.of_mut(seat);
+    *tally = tally.gave();
+}
 
-    pub(crate) fn took(&mut self, seat: u8, slots: u64)
-        requires { seat < 32 }
-        ensures { self.new ≡ with_tally seat (took slots) self.old }
-    {
-        let at = usize::from(seat);
-        self.of_seats[at] = self.of_seats[at].took(slots);
-    }
-
-    pub(crate) fn gave(&mut self, seat: u8)
-        requires { seat < 32 }
-        ensures { self.new ≡ with_tally seat gave self.old }
-    {
-        let at = usize::from(seat);
-        self.of_seats[at] = self.of_seats[at].gave();
-    }
-
-    pub(crate) fn found_none(&mut self, seat: u8)
-        requires { seat < 32 }
-        ensures { self.new ≡ with_tally seat found_none self.old }
-    {
-        let at = usize::from(seat);
-        self.of_seats[at] = self.of_seats[at].found_none();
-    }
+pub(crate) fn count_empty(tallies: &mut SeatTallies<Tally>, seat: u8)
+    requires { seat < 32 }
+    ensures { tallies.new ≡ with_tally seat found_none tallies.old }
+{
+    let tally = tallies.of_mut(seat);
+    *tally = tally.found_none();
 }

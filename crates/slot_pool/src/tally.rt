@@ -3,21 +3,21 @@
 ghost use Rattle.std.specs.Prelude.{◌≡◌};
 ghost use Rattle.slot_pool.specs.Tallies.{took, gave, found_none};
 
-/// How many slots a seat took from a pool and gave to it, and how often it found none.
+/// How many slots a seat took from a pool and gave to it, and how often it found none free.
 #[derive(Clone, Copy, Debug, PartialEq, Eq)]
 pub struct Tally {
-    /// The slots that it took, modulo 2^64.
+    /// The number of slots that it took, modulo 2^64.
     pub taken: u64,
-    /// The slots that it gave, modulo 2^64.
+    /// The number of slots that it gave, modulo 2^64.
     pub given: u64,
-    /// How often it was answered that none was free. It stops at 2^64 - 1.
+    /// How often it found no slot free. It stops at 2^64 - 1.
     pub empties: u64,
-    /// The slots that it took, as far as 2^64 - 1, where this stops.
+    /// The number of slots that it took. It stops at 2^64 - 1.
     pub drawn: u64,
 }
 
 impl Tally {
-    /// Of a seat that was in no turn.
+    /// The tally of a seat before its first turn.
     pub(crate) const NONE: Tally = Tally {
         taken: 0,
         given: 0,

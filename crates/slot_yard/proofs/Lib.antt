@@ -1,8 +1,8 @@
-mod Counting
-pub mod Ranks
-mod Finding
-mod Moving
-mod Keeping
-mod Retiring
-mod Parting
-pub mod Laws
+pub mod DriveRanks
+mod AddUpLemmas
+pub mod QueueLemmas
+pub mod NewYard
+mod SlotMoved
+mod DriveRetired
+pub mod ClosedYard
+pub mod KnownCounts

@@ -1,4 +1,4 @@
-//! A yard as the state of a turn cell: it makes no notes, and counts for each seat.
+//! A yard as the state of a turn cell: it keeps no notes, and a tally for each seat.
 
 use crate::yard::Yard;
 use domains::Shape;
@@ -11,7 +11,7 @@ impl<S: Slot + Send + Drop> Chronicle for Yard<S> {
 
     type Entry = ();
 
-    /// What no turn changes of a yard: the shape of its cluster.
+    /// What no turn of a yard changes: the shape of its cluster.
     type Fixed = Shape;
 
     ghost turns_of = { λ y. y.turns };

@@ -3,18 +3,18 @@
 ghost use Rattle.std.specs.Prelude.{◌≡◌};
 ghost use Rattle.slot_yard.specs.Tallies.{count_all, count_one};
 
-/// What is done with a slot.
+/// What a seat does with a slot.
 #[derive(Clone, Copy, Debug, PartialEq, Eq)]
 pub enum Move {
-    /// It is put into the yard.
+    /// It puts the slot into the yard.
     Put,
-    /// It is taken from the yard.
+    /// It takes the slot from the yard.
     Take,
-    /// It is retired.
+    /// It retires the slot.
     Retire,
 }
 
-/// How many slots of a drive a seat put into the yard, took from it, and retired, each modulo 2^64.
+/// How many slots of a drive a seat put into the yard, took from it and retired, each modulo 2^64.
 #[derive(Clone, Copy, Debug, PartialEq, Eq)]
 pub struct Counts {
     pub put: u64,
@@ -23,7 +23,7 @@ pub struct Counts {
 }
 
 impl Counts {
-    /// Of a seat that was in no turn.
+    /// The counts of a seat before its first turn.
     pub(crate) const NONE: Counts = Counts {
         put: 0,
         taken: 0,

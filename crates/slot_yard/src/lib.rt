@@ -1,9 +1,11 @@
-//! The yard of a cluster, with the slots that wait for drives that are down and those that are retired, and what each seat did with them, to be kept in a turn cell.
+//! The slots of a cluster that wait for drives that are down, and those that are retired, with what each seat did with them, as the state of a turn cell.
 #![tactic(auto)]
 
 mod chronicle;
 mod counts;
-mod on_drive;
+mod queue;
+mod queues;
+mod rank;
 mod tallies;
 mod tally;
 mod yard;

@@ -4,6 +4,7 @@ ghost use Rattle.std.specs.Prelude.{◌≡◌, ◌<◌, ◌*◌, length, replica
 ghost use Rattle.slot_yard.specs.Tallies.{count_all, count_one, no_counts, rank_of, with_counts};
 
 use crate::counts::{Counts, Move};
+use crate::rank::{rank, ranks};
 use domains::DriveId;
 use std::alloc::{AllocError, Global};
 use std::marker::Model;
@@ -24,12 +25,11 @@ impl Model for Tally {
 }
 
 impl Tally {
-    /// Of a seat that was in no turn, for the drives of so many nodes.
+    /// The tally of a seat before its first turn, for the drives of `nodes` nodes.
     pub(crate) fn new(alloc: Global, nodes: u8) -> Result<Tally, AllocError>
         ensures { IfOk result (λ tally. tally ≡ replicate (nodes * 16) no_counts) }
     {
-        let drives = usize::from(nodes) * usize::from(DriveId::MAX_IN_NODE);
-        let of_drives = vec![in alloc; Counts::NONE; drives]?;
+        let of_drives = vec![in alloc; Counts::NONE; ranks(nodes)]?;
         Ok(Tally { of_drives })
     }
 
@@ -48,12 +48,4 @@ impl Tally {
         let rank = rank(drive);
         self.of_drives[rank] = self.of_drives[rank].count_all(taken, retired);
     }
-}
-
-/// The place of a drive in a tally.
-fn rank(drive: DriveId) -> usize
-    ensures { result ≡ rank_of drive }
-{
-    let before = usize::from(drive.node() - 1) * usize::from(DriveId::MAX_IN_NODE);
-    before + usize::from(drive.drive() - 1)
 }

@@ -1,7 +1,7 @@
 //! Two threads at one board: one gives orders, and the other watches.
 
 ghost use Rattle.std.specs.Prelude.{◌≡◌, ◌≤◌, true, IfOk};
-ghost use Rattle.board_log.specs.Board.{IsLegalBoardLog};
+ghost use Rattle.board_history.specs.Board.{IsLegalBoardLog};
 ghost use Rattle.turn_cell.specs.Seats.{AreNewSeats, IsIdleOf, cell_view, seat_view};
 ghost use Rattle.board.specs.History.{History, log_of};
 ghost use Rattle.board.specs.Views.{IsViewOf};

@@ -37,7 +37,7 @@ fn trade<S: Slot + Send + Drop, R: Wait>(
     }
 }
 
-/// Trades so many times.
+/// Trades `count` times.
 fn trade_all<S: Slot + Send + Drop, R: Wait>(
     rt: &R,
     cell: &TurnCell<Pool<S>>,
@@ -59,8 +59,8 @@ fn trade_all<S: Slot + Send + Drop, R: Wait>(
     (Ok(()), seat)
 }
 
-/// A cell with a pool of so many slots, and two seats.
-pub fn open(
+/// A cell with a pool of `slots` slots, and two seats.
+fn open(
     alloc: Global,
     slots: u16,
 ) -> Result<(TurnCell<Pool<SurePiece>>, Vec<Seat<Pool<SurePiece>>>), Fault>
@@ -96,7 +96,7 @@ fn close_even<S: Slot + Send + Drop>(
     pool
 }
 
-/// Two threads trade so many times each. At the end all slots are free.
+/// Two threads trade `count` times each. At the end all slots are free.
 pub fn race<R: Threads + Wait + Sync>(
     rt: &R,
     alloc: Global,

@@ -27,7 +27,7 @@ pub fn slots_of<R: Rack>(
     Ok(slots)
 }
 
-/// A pool of so many slots of drive 2/1.
+/// A pool of `count` slots of drive 2/1.
 pub fn pool_of(alloc: Global, count: u16) -> Result<Pool<SurePiece>, Fault>
     requires { count ≤ 4096 }
     ensures turns { IfOk result (λ pool. pool.turns ≡ 0) }

@@ -1,25 +1,19 @@
 //! Slots of drives, and a yard for them.
 
 ghost use Rattle.std.specs.Prelude.{◌≡◌, ◌≤◌, length, IfOk, true};
-ghost use Rattle.domains.specs.Cluster.{is_of};
+ghost use Rattle.domains.specs.Shape.{is_of};
 ghost use Rattle.slot_pool.specs.Pools.{AreSlotsOf};
 
 use crate::Yard;
 use domains::{DriveId, Shape};
 use flex_io::{Fault, Rack, Slot, SurePiece, SureRack};
+use held_slots::Held;
 use lists::List;
-use slot_pool::{Held, Pool};
+use slot_pool::Pool;
 use std::alloc::{AllocError, Global};
 
-/// Two nodes of two drives with three slots each.
-pub fn small() -> Shape
-    ensures { result ≡ record { nodes = 2; drives = 2; slots = 3; unit = 8 } }
-{
-    Shape::new(2, 2, 3, 8)
-}
-
 /// Two nodes of two drives with five slots each.
-pub fn wide() -> Shape
+pub fn small() -> Shape
     ensures { result ≡ record { nodes = 2; drives = 2; slots = 5; unit = 8 } }
 {
     Shape::new(2, 2, 5, 8)
@@ -42,16 +36,8 @@ fn slots_of<R: Rack>(
     Ok(slots)
 }
 
-/// A pool of three slots of the drive.
-pub fn pool_of(alloc: Global, drive: DriveId) -> Result<Pool<SurePiece>, Fault>
-    ensures drive { IfOk result (λ pool. pool.drive ≡ drive) }
-    ensures slots { IfOk result (λ pool. pool.slots ≡ 3) }
-{
-    pool_with(alloc, drive, 3)
-}
-
-/// A pool of so many slots of the drive.
-pub fn pool_with(alloc: Global, drive: DriveId, count: u16) -> Result<Pool<SurePiece>, Fault>
+/// A pool of the first `count` slots of the drive.
+pub fn pool_of(alloc: Global, drive: DriveId, count: u16) -> Result<Pool<SurePiece>, Fault>
     requires { count ≤ 4096 }
     ensures drive { IfOk result (λ pool. pool.drive ≡ drive) }
     ensures slots { IfOk result (λ pool. pool.slots ≡ count) }
@@ -63,7 +49,7 @@ pub fn pool_with(alloc: Global, drive: DriveId, count: u16) -> Result<Pool<SureP
     }
 }
 
-/// Puts the pool's next slot into the yard, and tells whether it is there.
+/// Puts the pool's next slot into the yard, and returns whether it is there.
 pub fn put_next(yard: &mut Yard<SurePiece>, pool: &mut Pool<SurePiece>) -> bool
     requires of { is_of yard.old.shape pool.old.drive ≡ true }
     requires slots { pool.old.slots ≤ yard.old.shape.slots }
@@ -83,7 +69,7 @@ pub fn put_next(yard: &mut Yard<SurePiece>, pool: &mut Pool<SurePiece>) -> bool
     }
 }
 
-/// Retires the pool's next slot, and tells whether it is retired.
+/// Retires the pool's next slot, and returns whether it is retired.
 pub fn retire_next(yard: &mut Yard<SurePiece>, pool: &mut Pool<SurePiece>) -> bool
     requires of { is_of yard.old.shape pool.old.drive ≡ true }
     requires slots { pool.old.slots ≤ yard.old.shape.slots }
@@ -103,7 +89,7 @@ pub fn retire_next(yard: &mut Yard<SurePiece>, pool: &mut Pool<SurePiece>) -> bo
     }
 }
 
-/// Retires the pool's drive, and tells how many slots are retired.
+/// Retires the pool's drive, and returns how many slots are retired.
 pub fn retire_drive(yard: &mut Yard<SurePiece>, pool: &mut Pool<SurePiece>) -> Option<u32>
     requires of { is_of yard.old.shape pool.old.drive ≡ true }
     requires slots { pool.old.slots ≤ yard.old.shape.slots }
@@ -137,19 +123,4 @@ pub fn places_of(
     }
     all.destroy_empty();
     if refused { Err(AllocError) } else { Ok(places) }
-}
-
-/// The places of up to three slots, from the last. All slots are spent.
-pub fn spend_all(all: List<Held<SurePiece>>) -> [Option<(u8, u8, u16)>; 3] {
-    let mut all = all.into_vec();
-    let places = [
-        all.pop().map(place_of),
-        all.pop().map(place_of),
-        all.pop().map(place_of),
-    ];
-    while let Some(held) = all.pop() {
-        let _slot = held.spend();
-    }
-    all.destroy_empty();
-    places
 }

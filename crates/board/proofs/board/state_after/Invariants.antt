@@ -1,5 +1,5 @@
 use Rattle.std.proofs.Common.{◌≡◌, drop}
-use Rattle.board_log.specs.Board.{state_from, state_after}
+use Rattle.board_history.specs.Board.{state_from, state_after}
 use Rattle.board.proofs.board.state_after.Given as goal
 
 abbrev pub invariant-loop-entry : goal.invariant-loop-entry

@@ -1,8 +1,8 @@
 use Rattle.std.proofs.Common.{List, ◌∙◌, sym, subst}
-use Rattle.domains.specs.Cluster.{Cluster}
-use Rattle.board_log.specs.Board.{IsLegalBoardLog}
-use Rattle.board_log.specs.declared.entry.BoardEntry.{BoardEntry}
-use Rattle.board.proofs.Opening.{log_inside}
+use Rattle.domains.specs.Shape.{Shape}
+use Rattle.board_history.specs.Board.{IsLegalBoardLog}
+use Rattle.board_history.specs.declared.entry.BoardEntry.{BoardEntry}
+use Rattle.board.proofs.BoardFields.{log_inside}
 use Rattle.board.proofs.board.Board.close.Goals as goal
 
 pub returns-clause-log : goal.returns-clause-log
@@ -10,4 +10,4 @@ returns-clause-log c = c.from_vec.ensures ∙ log_inside c.self.inside c.args.se
 
 pub returns-clause-legal : goal.returns-clause-legal
 returns-clause-legal c =
-    subst (λ (x : Cluster × List BoardEntry). IsLegalBoardLog x.0 x.1) (λ i. ((c.self.view_is i).shape, sym c.from_vec.ensures i)) c.self.invariant.legal
+    subst (λ (x : Shape × List BoardEntry). IsLegalBoardLog x.0 x.1) (λ i. ((c.self.view_is i).shape, sym c.from_vec.ensures i)) c.self.invariant.legal

@@ -1,10 +1,10 @@
 use Rattle.std.proofs.Common.{List, ◌∙◌, sym, subst, rules}
-use Rattle.domains.specs.Cluster.{Cluster}
-use Rattle.board_log.specs.declared.entry.BoardEntry.{BoardEntry}
+use Rattle.domains.specs.Shape.{Shape}
+use Rattle.board_history.specs.declared.entry.BoardEntry.{BoardEntry}
 use Rattle.board.specs.Views.{IsViewOf}
-use Rattle.board.specs.declared.present.View.{View}
-use Rattle.board.proofs.Opening.{count_inside, log_inside}
-use Rattle.board.proofs.Viewing.{shows}
+use Rattle.board.specs.declared.board_view.View.{View}
+use Rattle.board.proofs.BoardFields.{count_inside, log_inside}
+use Rattle.board.proofs.ViewLemmas.{shows}
 use Rattle.board.proofs.board.Board.present.Goals as goal
 
 pub overflow_cast-result : goal.overflow_cast-result
@@ -22,5 +22,5 @@ returns-clause-view c =
     let inside = c.self.inside in
     let shown : View = record { epoch = c.len.result; up = inside.states.up; gone = inside.states.gone } in
     let log = log_inside inside c.args.self.now c.self.view_is c.self.invariant.stamped in
-    subst (λ (x : Cluster × List BoardEntry). IsViewOf x.0 x.1 shown) (λ i. ((c.self.view_is i).shape, log i))
+    subst (λ (x : Shape × List BoardEntry). IsViewOf x.0 x.1 shown) (λ i. ((c.self.view_is i).shape, log i))
     (shows inside.shape inside.entries.items inside.states c.len.result (c.len.ensures ∙ inside.entries.ok.0) c.self.invariant.states)

@@ -1,6 +1,6 @@
 use Rattle.std.proofs.Common.{◌≡◌, ap, sym, rules}
 use Rattle.board.specs.History.{History}
-use Rattle.board.proofs.Opening.{count_inside}
+use Rattle.board.proofs.BoardFields.{count_inside}
 use Rattle.board.proofs.board.Board.reserve.Goals as goal
 
 pub returns-then-self-len-clause-log_full : goal.returns-then-self-len-clause-log_full

@@ -1,8 +1,8 @@
 use Rattle.std.proofs.Common.{◌≡◌, List, length, take, ◌∙◌, ap, sym, rules}
-use Rattle.board_log.specs.Board.{state_after}
-use Rattle.board_log.specs.declared.entry.BoardEntry.{BoardEntry}
+use Rattle.board_history.specs.Board.{state_after}
+use Rattle.board_history.specs.declared.entry.BoardEntry.{BoardEntry}
 use Rattle.board.specs.History.{log_of}
-use Rattle.board.proofs.Opening.{count_inside, log_inside}
+use Rattle.board.proofs.BoardFields.{count_inside, log_inside}
 use Rattle.board.proofs.board.Board.state_at.Goals as goal
 
 pub slice_bounds-state_after-end : goal.slice_bounds-state_after-end

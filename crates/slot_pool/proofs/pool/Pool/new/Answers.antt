@@ -1,5 +1,5 @@
 use Rattle.std.proofs.Common.{rules}
-use Rattle.slot_pool.proofs.Opening.{IsPool-new}
+use Rattle.slot_pool.proofs.NewPool.{IsPool-new}
 use Rattle.slot_pool.proofs.pool.Pool.new.Goals as goal
 
 pub invariant_of-result : goal.invariant_of-result

@@ -1,4 +1,4 @@
-use Rattle.slot_pool.proofs.Laws.{all_free-closed, AreEvenFrom}
+use Rattle.slot_pool.proofs.ClosedPool.{all_free-closed, AreEvenFrom}
 use Rattle.slot_pool.proofs.tests.race.close_even.Goals as goal
 
 pub returns : goal.returns

@@ -1,4 +1,4 @@
-use Rattle.slot_pool.proofs.Laws.{IsFresh-new}
+use Rattle.slot_pool.proofs.NewPool.{IsFresh-new}
 use Rattle.slot_pool.proofs.tests.race.open.Goals as goal
 
 pub new-requires-clause-fresh : goal.new-requires-clause-fresh

@@ -1,5 +1,5 @@
 use Rattle.std.proofs.Common.{ap}
-use Rattle.slot_pool.proofs.Laws.{no_tally_at}
+use Rattle.slot_pool.proofs.NewPool.{no_tally_at}
 use Rattle.slot_pool.proofs.tests.slots.pool_of.Goals as goal
 
 pub returns-in-Ok-clause-none : goal.returns-in-Ok-clause-none

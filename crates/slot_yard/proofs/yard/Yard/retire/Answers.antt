@@ -1,9 +1,6 @@
 use Rattle.std.proofs.Common.{rules}
-use Rattle.slot_yard.proofs.Keeping.{IsSpot-of, IsYard-retire}
+use Rattle.slot_yard.proofs.SlotMoved.{IsYard-retire}
 use Rattle.slot_yard.proofs.yard.Yard.retire.Goals as goal
-
-pub place-requires : goal.place-requires
-place-requires g c = IsSpot-of c.self.inside.shape _ c.self.invariant.shape (search rules)
 
 pub invariant_of-self-2 : goal.invariant_of-self-2
 invariant_of-self-2 g c =

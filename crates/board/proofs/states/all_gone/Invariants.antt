@@ -1,6 +1,0 @@
-use Rattle.std.proofs.Common.{◌≡◌, true}
-use Rattle.board.specs.States.{all_in}
-use Rattle.board.proofs.states.all_gone.Given as goal
-
-abbrev pub invariant-loop-drive : goal.invariant-loop-drive
-invariant-loop-drive l = all_in l.drive l.node l.gone ≡ true
