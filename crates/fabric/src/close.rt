@@ -1,20 +1,21 @@
 //! The end of a fabric.
 
 ghost use Rattle.std.specs.Prelude.{◌≡◌, ℕ, ◌≤◌, [], length, map, Some, slice_get, vec_capacity};
-ghost use Rattle.fabric.specs.Cells.{AreCells, HasRoom, cells_view};
-ghost use Rattle.fabric.specs.Closing.{AreHandsOf, AreIn, ArePoolsOf, AreYardOf, CanGather, ClosesBoard, ClosesPool, IsAccounted, IsClosedAt, IsExact};
+ghost use Rattle.fabric.specs.Cells.{AreCells, cells_view};
+ghost use Rattle.fabric.specs.ClosedFabric.{AreHandsOf, AreIn, ArePoolsOf, AreYardOf, CanGather, ClosesBoard, ClosesPool, IsAccounted, IsClosedAt, IsExact};
 ghost use Rattle.fabric.specs.Views.{fabric_view};
 ghost use Rattle.slot_pool.specs.Pools.{IsPool, PoolView};
 ghost use Rattle.turn_cell.specs.Seats.{AreSeatsOf, cell_view};
 
 use crate::cells::Cells;
+use crate::close_buffers::CloseBuffers;
 use crate::fabric::Fabric;
 use crate::hand::Hand;
-use crate::rooms::Rooms;
 use board::Board;
 use flex_io::Slot;
+use held_slots::Held;
 use lists::List;
-use slot_pool::{Held, Pool};
+use slot_pool::Pool;
 use slot_yard::YardParts;
 use turn_cell::{Seat, TurnCell};
 
@@ -48,7 +49,6 @@ impl<S: Slot + Send + Drop> Cells<S> {
     /// Closes each cell, with the seats of all hands.
     pub(crate) fn close(self, hands: Vec<Hand<S>>) -> Parts<S>
         requires cells { AreCells (cells_view self) }
-        requires room { HasRoom self }
         requires hands { AreHandsOf (cells_view self) hands.items }
         ensures board { ClosesBoard (map (λ hand. hand.board) hands.items) result.board }
         ensures yard { AreYardOf S.place_of self.shape hands.items result.yard result.retired }
@@ -60,13 +60,12 @@ impl<S: Slot + Send + Drop> Cells<S> {
             board,
             yard,
             pools,
-            closed,
         } = self;
-        let rooms = gather(hands);
-        let pools = close_pools(pools, rooms.pools, closed);
-        let YardParts { yard, retired } = yard.close(rooms.yard).close();
+        let buffers = gather(hands);
+        let pools = close_pools(pools, buffers.pools, buffers.closed);
+        let YardParts { yard, retired } = yard.close(buffers.yard).close();
         Parts {
-            board: board.close(rooms.board),
+            board: board.close(buffers.board),
             yard,
             retired,
             pools: List::from_vec(pools),
@@ -75,7 +74,7 @@ impl<S: Slot + Send + Drop> Cells<S> {
 }
 
 /// The seats of all hands, each cell's in the order of the hands, in the first hand's room for them.
-fn gather<S: Slot + Send + Drop>(mut hands: Vec<Hand<S>>) -> Rooms<S>
+fn gather<S: Slot + Send + Drop>(mut hands: Vec<Hand<S>>) -> CloseBuffers<S>
     requires { CanGather hands.items }
     ensures { AreIn hands.items result }
 {
@@ -83,19 +82,19 @@ fn gather<S: Slot + Send + Drop>(mut hands: Vec<Hand<S>>) -> Rooms<S>
         board,
         yard,
         pools,
-        mut rooms,
+        mut buffers,
     } = hands.remove(0);
-    rooms.take_in(board, yard, pools);
+    buffers.take_in(board, yard, pools);
     for hand in hands {
         let Hand {
             board,
             yard,
             pools,
-            rooms: _,
+            buffers: _,
         } = hand;
-        rooms.take_in(board, yard, pools);
+        buffers.take_in(board, yard, pools);
     }
-    rooms
+    buffers
 }
 
 /// The pool of a cell.
@@ -112,21 +111,21 @@ fn close_pool<S: Slot + Send + Drop>(cell: TurnCell<Pool<S>>, seats: Vec<Seat<Po
 /// The pools of the cells, in their order.
 fn close_pools<S: Slot + Send + Drop>(
     cells: Vec<TurnCell<Pool<S>>>,
-    rooms: Vec<Vec<Seat<Pool<S>>>>,
+    buffers: Vec<Vec<Seat<Pool<S>>>>,
     mut closed: Vec<Pool<S>>,
 ) -> Vec<Pool<S>>
-    requires many { length rooms.items ≡ length cells.items }
-    requires seats { (k : ℕ) (cell : _) (room : _) → slice_get cells.items k ≡ Some cell → slice_get rooms.items k ≡ Some room
+    requires many { length buffers.items ≡ length cells.items }
+    requires seats { (k : ℕ) (cell : _) (room : _) → slice_get cells.items k ≡ Some cell → slice_get buffers.items k ≡ Some room
         → AreSeatsOf (cell_view cell) room.items }
     requires none { closed.items ≡ [] }
     requires room { length cells.items ≤ vec_capacity closed }
     ensures many { length result.items ≡ length cells.items }
-    ensures closes { (k : ℕ) (room : _) (pool : PoolView S) → slice_get rooms.items k ≡ Some room → slice_get result.items k ≡ Some pool
+    ensures closes { (k : ℕ) (room : _) (pool : PoolView S) → slice_get buffers.items k ≡ Some room → slice_get result.items k ≡ Some pool
         → ClosesPool room.items pool × IsPool S.place_of pool }
 {
-    let mut rooms = rooms.into_iter();
+    let mut buffers = buffers.into_iter();
     for cell in cells {
-        let Some(seats) = rooms.next() else {
+        let Some(seats) = buffers.next() else {
             unreachable!()
         };
         closed.push_reserved(close_pool(cell, seats));

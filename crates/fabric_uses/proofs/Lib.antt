@@ -1,0 +1,3 @@
+mod TraderHands
+mod NoneHeld
+mod KnownContent

@@ -1,0 +1,2 @@
+pub mod Traders
+pub mod Whole
