@@ -1,9 +1,9 @@
-pub mod Order
-pub mod Room
-pub mod OrderLaws
-pub mod Turns
-pub mod Examples
 pub mod Draws
 pub mod Searches
-pub mod Places
-pub mod Writing
+pub mod PlacedGroups
+pub mod PartialGroups
+pub use Rattle.placement_order.specs.Order.{DrawRequest, order_of, units_on}
+pub use Rattle.placement_order.specs.OrderLaws.{MayBeTried, MayGive, NoneIsLeft}
+pub use Rattle.placement_order.specs.Room.{room_left}
+pub use Rattle.placement.specs.Draws.{FindsNoRoom, IfNoMemory, IfNoRoom, IsSameDesk, LosesSlots, draw_request}
+pub use Rattle.placement.specs.PlacedGroups.{FindsNoPlace, Places}

@@ -1,18 +1,17 @@
 //! Where the units of a protection group go: slots drawn in the order of placement, and written.
 #![tactic(auto)]
 
-mod draws;
-pub mod laws;
-mod places;
-mod placing;
+mod draw_call;
+mod partial_group;
+mod place_call;
 mod refusal;
 mod release;
+mod request;
 mod search;
-mod terms;
-mod writing;
+mod unit_writes;
 
-pub use draws::draw;
-pub use places::place;
+pub use draw_call::draw;
+pub use place_call::place;
 pub use refusal::{EmptyAt, NoRoom, PlaceRefusal};
 
 #[cfg(test)]

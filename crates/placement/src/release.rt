@@ -1,25 +1,27 @@
 //! What becomes of slots that are not used.
 
 ghost use Rattle.std.specs.Prelude.{◌≡◌, ℕ, true, false};
-ghost use Rattle.std.specs.List.{All};
-ghost use Rattle.domains.specs.Cluster.{is_of};
-ghost use Rattle.domains.specs.Drive.{Drive, same_drive};
-ghost use Rattle.slot_pool.specs.Places.{spot_of};
-ghost use Rattle.slot_yard.specs.Slots.{IsPlaceOf, drive_of};
+ghost use Rattle.domains.specs.Drive.{AreApart, Drive, is_in, same_drive};
+ghost use Rattle.domains.specs.DriveSet.{has};
+ghost use Rattle.domains.specs.Shape.{is_of};
+ghost use Rattle.held_slots.specs.Slots.{drive_of, place_from};
+ghost use Rattle.domains.specs.Place.{IsPlaceOf};
 ghost use Rattle.turn_cell.specs.Seats.{seat_view};
-ghost use Rattle.fabric.specs.Accounts.{Loses};
+ghost use Rattle.fabric.specs.Accounts.{Loses, Stays};
+ghost use Rattle.fabric.specs.PoolTurns.{Gives};
+ghost use Rattle.fabric.specs.HandTurns.{AtPool};
 ghost use Rattle.fabric.specs.Views.{IsHandOf, fabric_view, number_of, seat_on};
-ghost use Rattle.placement.specs.Draws.{drives_of_all};
-ghost use Rattle.placement.specs.Order.{is_in};
-ghost use Rattle.placement.specs.Searches.{GivesBack};
+ghost use Rattle.placement.specs.Draws.{AreOfCluster, AtSeat, Returns, ReturnsOnce, drives_of_all};
+ghost use Rattle.placement.specs.Searches.{GivesAllBack, GivesBack};
 
 use board::View;
 use fabric::{Fabric, Hand};
 use flex_io::Slot;
-use slot_pool::Held;
+use held_slots::Held;
 use std::sync::Wait;
 
-/// Gives slots back, the last one first, and answers whether all went. One that is refused is spent.
+/// Gives slots back to the pools of their drives, the last one first, and answers whether all went. One that is refused
+/// is lost.
 pub(crate) fn release_all<S: Slot + Send + Drop, R: Wait>(
     rt: &R,
     fabric: &Fabric<S>,
@@ -28,13 +30,18 @@ pub(crate) fn release_all<S: Slot + Send + Drop, R: Wait>(
     mut slots: Vec<Held<S>>,
 ) -> bool
     requires hand { IsHandOf (fabric_view fabric.now) hand.old }
-    requires places { All (λ held. IsPlaceOf (fabric_view fabric.now).shape (spot_of (S.place_of held))) slots.items }
+    requires places { AreOfCluster S.place_of (fabric_view fabric.now).shape slots.items }
+    requires apart { AreApart (drives_of_all S.place_of slots.items) }
+    requires up { (d : Drive) → is_in (drives_of_all S.place_of slots.items) d ≡ true → has view.now.up d ≡ true }
     ensures hand { IsHandOf (fabric_view fabric.now) hand.new }
     ensures number { number_of hand.new ≡ number_of hand.old }
     ensures board { seat_view hand.new.board ≡ seat_view hand.old.board }
+    ensures yard { seat_view hand.new.yard ≡ seat_view hand.old.yard }
     ensures others { (e : Drive) → is_of (fabric_view fabric.now).shape e ≡ true → is_in (drives_of_all S.place_of slots.items) e ≡ false
         → seat_on (fabric_view fabric.now).shape hand.new e ≡ seat_on (fabric_view fabric.now).shape hand.old e }
-    ensures less { result ≡ true → GivesBack S.place_of (fabric_view fabric.now).shape slots.items hand.old hand.new }
+    ensures once { ReturnsOnce S.place_of (fabric_view fabric.now).shape hand.old hand.new }
+    ensures back { GivesBack S.place_of (fabric_view fabric.now).shape slots.items hand.old hand.new }
+    ensures all_back { result ≡ true → GivesAllBack S.place_of (fabric_view fabric.now).shape slots.items hand.old hand.new }
 {
     let mut all_back = true;
     while let Some(held) = slots.pop() {
@@ -45,8 +52,8 @@ pub(crate) fn release_all<S: Slot + Send + Drop, R: Wait>(
     all_back
 }
 
-/// Gives a slot back, and answers whether it went. If it is refused, it is spent.
-pub(crate) fn release<S: Slot + Send + Drop, R: Wait>(
+/// Gives a slot back to the pool of its drive, and answers whether it went. If it is refused, it is lost.
+fn release<S: Slot + Send + Drop, R: Wait>(
     rt: &R,
     fabric: &Fabric<S>,
     hand: &mut Hand<S>,
@@ -54,13 +61,18 @@ pub(crate) fn release<S: Slot + Send + Drop, R: Wait>(
     held: Held<S>,
 ) -> bool
     requires hand { IsHandOf (fabric_view fabric.now) hand.old }
-    requires place { IsPlaceOf (fabric_view fabric.now).shape (spot_of (S.place_of held)) }
+    requires place { IsPlaceOf (fabric_view fabric.now).shape (place_from (S.place_of held)) }
+    requires up { has view.now.up (drive_of S.place_of held) ≡ true }
     ensures hand { IsHandOf (fabric_view fabric.now) hand.new }
     ensures number { number_of hand.new ≡ number_of hand.old }
     ensures board { seat_view hand.new.board ≡ seat_view hand.old.board }
+    ensures yard { seat_view hand.new.yard ≡ seat_view hand.old.yard }
     ensures others { (e : Drive) → is_of (fabric_view fabric.now).shape e ≡ true → same_drive e (drive_of S.place_of held) ≡ false
         → seat_on (fabric_view fabric.now).shape hand.new e ≡ seat_on (fabric_view fabric.now).shape hand.old e }
+    ensures once { AtSeat (fabric_view fabric.now).shape (drive_of S.place_of held) (Returns S.place_of) hand.old hand.new }
+    ensures gives { result ≡ true → AtPool (fabric_view fabric.now).shape (drive_of S.place_of held) (Gives S.place_of held) hand.old hand.new }
     ensures less { result ≡ true → Loses (fabric_view fabric.now).shape (drive_of S.place_of held) hand.old hand.new }
+    ensures same { result ≡ false → Stays (fabric_view fabric.now).shape hand.old hand.new }
 {
     match fabric.release(rt, hand, view, held) {
         Ok(()) => true,

@@ -1,19 +1,18 @@
-//! Slots drawn and units placed on small clusters.
+//! Slots drawn and units placed on small clusters, over racks in memory.
 
 ghost use Rattle.std.specs.Prelude.{◌≡◌, ◌≤◌};
 ghost use Rattle.fabric.specs.Views.{IsHandOf, fabric_view, number_of};
 
-mod shaky;
-
-use self::shaky::{Shaky, ShakyRack};
 use crate::{EmptyAt, NoRoom, PlaceRefusal, draw, place};
 use board::View;
-use domains::{By, DriveId, DriveSet, Level, Place, Shape};
+use domains::{By, DriveId, DriveSet, Level, Shape};
 use fabric::{Desk, Fabric, Hand, Parts};
-use flex_io::{OpenGate, Slot};
+use flex_io::{
+    Fail as PlannedFailure, MemoryPiece, MemoryRack, OpenGate, RackCall, RawPlace, Slot,
+};
+use held_slots::{Held, spend_all};
 use lists::List;
 use rs_codes::Units;
-use slot_pool::Held;
 use std::alloc::{AllocError, Global};
 use std::sync::Wait;
 use std::test::Fail;
@@ -31,12 +30,12 @@ fn all_up(shape: Shape) -> View {
 fn draw_slots<R: Wait>(
     rt: &R,
     alloc: Global,
-    fabric: &Fabric<Shaky>,
-    hand: &mut Hand<Shaky>,
+    fabric: &Fabric<MemoryPiece>,
+    hand: &mut Hand<MemoryPiece>,
     level: Level,
     spin: u32,
     count: u8,
-) -> Result<List<Held<Shaky>>, PlaceRefusal>
+) -> Result<List<Held<MemoryPiece>>, PlaceRefusal>
     requires { IsHandOf (fabric_view fabric.now) hand.old }
     ensures hand { IsHandOf (fabric_view fabric.now) hand.new }
     ensures number { number_of hand.new ≡ number_of hand.old }
@@ -58,12 +57,12 @@ fn draw_slots<R: Wait>(
 fn place_units<R: Wait>(
     rt: &R,
     alloc: Global,
-    fabric: &Fabric<Shaky>,
-    hand: &mut Hand<Shaky>,
+    fabric: &Fabric<MemoryPiece>,
+    hand: &mut Hand<MemoryPiece>,
     level: Level,
     spin: u32,
     units: &Units,
-) -> Result<List<Held<Shaky>>, PlaceRefusal>
+) -> Result<List<Held<MemoryPiece>>, PlaceRefusal>
     requires hand { IsHandOf (fabric_view fabric.now) hand.old }
     requires unit { units.now.unit_length ≤ 262144 }
     ensures hand { IsHandOf (fabric_view fabric.now) hand.new }
@@ -85,7 +84,7 @@ fn place_units<R: Wait>(
 /// What a slot tells: its node, drive and number, and its bytes where it has eight.
 type Told = Option<((u8, u8, u16), Option<[u8; 8]>)>;
 
-fn tell(slot: Option<Held<Shaky>>) -> Told {
+fn tell(slot: Option<Held<MemoryPiece>>) -> Told {
     let mut slot = slot?.spend();
     let at = slot.place();
     let place = (at.node, at.drive, at.slot);
@@ -100,7 +99,7 @@ fn tell(slot: Option<Held<Shaky>>) -> Told {
 }
 
 /// What the first six slots tell. All are spent.
-fn tell_all(slots: List<Held<Shaky>>) -> [Told; 6] {
+fn tell_all(slots: List<Held<MemoryPiece>>) -> [Told; 6] {
     let mut slots = slots.into_vec();
     slots.reverse();
     let told = [
@@ -115,19 +114,8 @@ fn tell_all(slots: List<Held<Shaky>>) -> [Told; 6] {
     told
 }
 
-/// How many slots there are. All are spent.
-fn spend_all(slots: List<Held<Shaky>>) -> usize {
-    let count = slots.len();
-    let mut slots = slots.into_vec();
-    while let Some(held) = slots.pop() {
-        let _slot = held.spend();
-    }
-    slots.destroy_empty();
-    count
-}
-
 /// How many slots are retired once a fabric is closed.
-fn retired(parts: Parts<Shaky>) -> usize {
+fn retired(parts: Parts<MemoryPiece>) -> usize {
     let Parts {
         board: _,
         yard,
@@ -140,7 +128,7 @@ fn retired(parts: Parts<Shaky>) -> usize {
 
 #[test]
 fn six_slots_come_node_by_node_and_round_by_round(rt: HostRuntime) -> Result<(), Fail> {
-    let mut rack = ShakyRack::new(rt.alloc(), (0, 0));
+    let mut rack = MemoryRack::new(rt.alloc(), List::new(rt.alloc()));
     let level = Level::read("+2d:1n").expect(&rt, "the name is one of the table");
     let opened = Fabric::open(rt.alloc(), Shape::new(3, 2, 16, 8), &mut rack, 1, 0);
     let (fabric, hands) = opened.expect(&rt, "there is memory for 96 slots");
@@ -170,7 +158,7 @@ fn six_slots_come_node_by_node_and_round_by_round(rt: HostRuntime) -> Result<(),
 }
 
 /// What is told where there was no room. Slots that were drawn are spent.
-fn no_room(drawn: Result<List<Held<Shaky>>, PlaceRefusal>) -> Option<NoRoom> {
+fn no_room(drawn: Result<List<Held<MemoryPiece>>, PlaceRefusal>) -> Option<NoRoom> {
     match drawn {
         Ok(slots) => {
             spend_all(slots);
@@ -183,7 +171,7 @@ fn no_room(drawn: Result<List<Held<Shaky>>, PlaceRefusal>) -> Option<NoRoom> {
 
 #[test]
 fn a_drive_with_no_free_slot_is_named(rt: HostRuntime) -> Result<(), Fail> {
-    let mut rack = ShakyRack::new(rt.alloc(), (0, 0));
+    let mut rack = MemoryRack::new(rt.alloc(), List::new(rt.alloc()));
     let opened = Fabric::open(rt.alloc(), Shape::new(1, 1, 1, 8), &mut rack, 1, 0);
     let (fabric, hands) = opened.expect(&rt, "there is memory for one slot");
     let mut hands = hands.into_vec();
@@ -224,57 +212,19 @@ fn a_drive_with_no_free_slot_is_named(rt: HostRuntime) -> Result<(), Fail> {
 }
 
 #[test]
-fn slots_of_a_group_without_room_go_back(rt: HostRuntime) -> Result<(), Fail> {
-    let mut rack = ShakyRack::new(rt.alloc(), (0, 0));
-    let opened = Fabric::open(rt.alloc(), Shape::new(2, 2, 1, 8), &mut rack, 1, 0);
-    let (fabric, hands) = opened.expect(&rt, "there is memory for four slots");
-    let mut hands = hands.into_vec();
-    let Some(mut hand) = hands.pop() else {
-        unreachable!()
-    };
-    let three = draw_slots(
-        &rt,
-        rt.alloc(),
-        &fabric,
-        &mut hand,
-        Level::two_copies(),
-        3,
-        3,
-    );
-    let three = no_room(three);
-    let two = draw_slots(
-        &rt,
-        rt.alloc(),
-        &fabric,
-        &mut hand,
-        Level::two_copies(),
-        3,
-        2,
-    );
-    let two = tell_all(two.expect(&rt, "two nodes have free slots"));
-    hands.push_reserved(hand);
-    assert_eq!(rt; retired(fabric.close(List::from_vec(hands))), 0);
-    let told = three.expect(&rt, "there are two nodes");
-    assert_eq!(rt; (told.need, told.got), (3, 2));
-    assert_eq!(rt; (told.empty.len(), told.failed.len()), (0, 0));
-    // The spin 3 goes once round the two nodes, so the second drive of each comes first.
-    assert_eq!(rt;
-        two,
-        [
-            Some(((2, 2, 0), None)),
-            Some(((1, 2, 0), None)),
-            None,
-            None,
-            None,
-            None
-        ]
-    );
-    Ok(())
-}
-
-#[test]
 fn a_unit_whose_slot_fails_goes_to_another_drive(rt: HostRuntime) -> Result<(), Fail> {
-    let mut rack = ShakyRack::new(rt.alloc(), (2, 1));
+    let first_write = PlannedFailure {
+        place: RawPlace {
+            node: 2,
+            drive: 1,
+            slot: 0,
+        },
+        call: RackCall::Write,
+        nth: 1,
+    };
+    let mut fails = Vec::new(rt.alloc());
+    fails.push(first_write)?;
+    let mut rack = MemoryRack::new(rt.alloc(), List::from_vec(fails));
     let mut units = Units::new(rt.alloc(), 8);
     units.push(b"unit one")?;
     units.push(b"unit two")?;
@@ -299,37 +249,5 @@ fn a_unit_whose_slot_fails_goes_to_another_drive(rt: HostRuntime) -> Result<(), 
     let one = Some(((2, 2, 0), Some(*b"unit one")));
     let two = Some(((3, 1, 0), Some(*b"unit two")));
     assert_eq!(rt; told, [one, two, None, None, None, None]);
-    Ok(())
-}
-
-#[test]
-fn a_group_whose_drive_fails_has_no_room(rt: HostRuntime) -> Result<(), Fail> {
-    let mut rack = ShakyRack::new(rt.alloc(), (1, 1));
-    let mut units = Units::new(rt.alloc(), 8);
-    units.push(b"unit one")?;
-    let opened = Fabric::open(rt.alloc(), Shape::new(1, 1, 2, 8), &mut rack, 1, 0);
-    let (fabric, hands) = opened.expect(&rt, "there is memory for two slots");
-    let mut hands = hands.into_vec();
-    let Some(mut hand) = hands.pop() else {
-        unreachable!()
-    };
-    let placed = place_units(
-        &rt,
-        rt.alloc(),
-        &fabric,
-        &mut hand,
-        Level::two_copies(),
-        0,
-        &units,
-    );
-    let refused = no_room(placed);
-    hands.push_reserved(hand);
-    assert_eq!(rt; retired(fabric.close(List::from_vec(hands))), 1);
-    let told = refused.expect(&rt, "the only drive fails");
-    assert_eq!(rt; (told.need, told.got, told.empty.len()), (1, 0, 0));
-    assert_eq!(rt;
-        told.failed.as_slice(),
-        [Place::new(DriveId::new(1, 1), 0)].as_slice()
-    );
     Ok(())
 }

@@ -1,6 +1,6 @@
 use Rattle.std.proofs.Common.{length}
 use Rattle.fabric.specs.Views.{fabric_view}
-use Rattle.placement.proofs.Releasing.{HasReleased}
+use Rattle.placement.proofs.ReleasedSlots.{HasReleased}
 use Rattle.placement.proofs.release.release_all.Given as goal
 
 abbrev pub decreases-loop-held : goal.decreases-loop-held

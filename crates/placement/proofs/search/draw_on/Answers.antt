@@ -1,21 +1,23 @@
 -- A drive is tried once.
-use Rattle.std.proofs.Common.{refl, sym, subst, arith}
-use Rattle.slot_yard.proofs.Ranks.{IsDrive-of}
-use Rattle.slot_yard.specs.Slots.{drive_of}
+use Rattle.std.proofs.Common.{refl, sym, ap, ◌∙◌, subst, arith}
+use Rattle.domains.proofs.ShapeLemmas.{IsDrive-of}
+use Rattle.domains.specs.Place.{IsPlaceOf}
+use Rattle.held_slots.specs.Slots.{drive_of}
 use Rattle.fabric.specs.Accounts.{Gains, Stays}
 use Rattle.fabric.specs.PoolTurns.{FindsNone, Takes}
-use Rattle.fabric.specs.Turns.{AtPool}
+use Rattle.fabric.specs.HandTurns.{AtPool}
 use Rattle.fabric.specs.Views.{fabric_view}
-use Rattle.slot_pool.specs.Places.{spot_of}
-use Rattle.slot_yard.specs.Slots.{IsPlaceOf}
-use Rattle.placement.proofs.Keeping.{MayTry, keeps-gave, keeps-none, room_for_empty}
+use Rattle.held_slots.specs.Slots.{place_from}
+use Rattle.placement.specs.Draws.{drives_at}
+use Rattle.placement.proofs.TriedDrives.{drives_at-push}
+use Rattle.placement.proofs.SearchSets.{MayTry, keeps-gave, keeps-none, room_for_empty}
 use Rattle.placement.proofs.search.draw_on.Goals as goal
 
 pub push_reserved-requires-in-Err : goal.push_reserved-requires-in-Err
 push_reserved-requires-in-Err g c =
-    let may : MayTry g.S.Slot.place_of c.args.terms.now c.args.search.now c.requires.search c.args.drive
+    let may : MayTry g.S.Slot.place_of c.args.request.now c.args.search.now c.requires.search c.args.drive
     = record { of_shape = c.requires.of; usable = c.requires.usable; not_closed = c.requires.open; wanted = c.requires.wanted } in
-    let room = room_for_empty g.S.Slot.place_of c.args.terms.now c.args.search.now c.requires.search c.args.drive may in
+    let room = room_for_empty g.S.Slot.place_of c.args.request.now c.args.search.now c.requires.search c.args.drive may in
     let long = c.args.search.now.empty.ok in
     omega (arith, room, long)
 
@@ -24,12 +26,12 @@ returns-in-Ok-clause-keeps g c =
     let place_of = g.S.Slot.place_of in
     let old = c.args.search.now in
     let hand_old = c.args.hand.now in
-    let may : MayTry place_of c.args.terms.now old c.requires.search c.args.drive
+    let may : MayTry place_of c.args.request.now old c.requires.search c.args.drive
     = record { of_shape = c.requires.of; usable = c.requires.usable; not_closed = c.requires.open; wanted = c.requires.wanted } in
-    keeps-gave place_of c.args.terms.now old c.requires.search c.args.drive may (fabric_view c.args.fabric.now) _ hand_old c.draw.new.hand
+    keeps-gave place_of c.args.request.now old c.requires.search c.args.drive may (fabric_view c.args.fabric.now) _ hand_old c.draw.new.hand
     c.draw.ensures.hand c.draw.ensures.number c.in-Ok.held c.in-Ok.ensures.on c.push_reserved.ensures.items c.push_reserved.ensures.capacity
     (record { adds = c.add.ensures }) refl refl
-    (subst (λ s. IsPlaceOf s (spot_of (place_of c.in-Ok.held))) c.requires.shape c.in-Ok.ensures.place)
+    (subst (λ s. IsPlaceOf s (place_from (place_of c.in-Ok.held))) c.requires.shape c.in-Ok.ensures.place)
     (subst (λ s. AtPool s (drive_of place_of c.in-Ok.held) (Takes place_of c.in-Ok.held) hand_old c.draw.new.hand) c.requires.shape
     (subst (λ d. AtPool (fabric_view c.args.fabric.now).shape d (Takes place_of c.in-Ok.held) hand_old c.draw.new.hand) (sym c.in-Ok.ensures.on) c.in-Ok.ensures.ok))
     (subst (λ s. Gains s (drive_of place_of c.in-Ok.held) hand_old c.draw.new.hand) c.requires.shape
@@ -40,9 +42,9 @@ returns-in-Err-clause-keeps g c =
     let place_of = g.S.Slot.place_of in
     let old = c.args.search.now in
     let hand_old = c.args.hand.now in
-    let may : MayTry place_of c.args.terms.now old c.requires.search c.args.drive
+    let may : MayTry place_of c.args.request.now old c.requires.search c.args.drive
     = record { of_shape = c.requires.of; usable = c.requires.usable; not_closed = c.requires.open; wanted = c.requires.wanted } in
-    keeps-none place_of c.args.terms.now old c.requires.search c.args.drive may (fabric_view c.args.fabric.now) _ hand_old c.draw.new.hand
+    keeps-none place_of c.args.request.now old c.requires.search c.args.drive may (fabric_view c.args.fabric.now) _ hand_old c.draw.new.hand
     c.draw.ensures.hand c.draw.ensures.number c.in-Err.field-0.turn refl (record { adds = c.add-in-Err.ensures }) refl
     c.push_reserved-in-Err.ensures.items c.push_reserved-in-Err.ensures.capacity
     (subst (λ s. AtPool s c.args.drive (FindsNone place_of c.in-Err.field-0.turn) hand_old c.draw.new.hand) c.requires.shape c.in-Err.ensures.empty)
@@ -51,5 +53,8 @@ returns-in-Err-clause-keeps g c =
 pub returns-in-Err-clause-none : goal.returns-in-Err-clause-none
 returns-in-Err-clause-none g c is = record {
   slots = refl;
-  spent = λ d of. c.add-in-Err.ensures d (IsDrive-of c.args.terms.now.shape d c.requires.search.cluster of);
+  spent = λ d of. c.add-in-Err.ensures d (IsDrive-of c.args.request.now.shape d c.requires.search.cluster of);
+  empty =
+      ap drives_at c.push_reserved-in-Err.ensures.items
+      ∙ drives_at-push g.S.Slot.place_of c.args.search.now.empty.items (record { drive = c.args.drive; turn = c.in-Err.field-0.turn });
 }

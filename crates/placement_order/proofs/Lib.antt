@@ -1,0 +1,18 @@
+pub mod ApartDrives
+mod CycleLemmas
+pub mod NodeDrives
+pub mod NodeCounts
+pub mod MarkedDrives
+mod VisitOutcomes
+pub mod OrderMembers
+pub mod OrderComplete
+pub mod RoomFilled
+mod NodeTurns
+mod OrderByRounds
+mod WorkedOrder
+mod WorkedRounds
+mod EarlierTurns
+pub mod PassedVisits
+pub mod PrefixDrives
+pub mod GroupChanges
+pub mod VisitsLeft
