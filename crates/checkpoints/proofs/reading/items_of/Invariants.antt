@@ -1,0 +1,7 @@
+use Rattle.std.proofs.Common.{◌≡◌, ◌-◌, map}
+use Rattle.checkpoints.specs.Reading.{each, item_at, raw_item, stays}
+use Rattle.checkpoints.proofs.EachInTurn.{with_front}
+use Rattle.checkpoints.proofs.reading.items_of.Given as goal
+
+abbrev pub invariant-loop-item : goal.invariant-loop-item
+invariant-loop-item l = with_front (map raw_item l.items.items) (each item_at stays (l.count - l._item) 0 l.rest) ≡ each item_at stays l.count 0 l.bytes

@@ -1,0 +1,5 @@
+pub mod Items
+pub mod Jobs
+pub mod Steps
+pub mod Begun
+pub mod Running

@@ -1,0 +1,5 @@
+pub mod Kinds
+pub mod Phases
+pub mod Rank
+pub mod Chosen
+pub mod Why
