@@ -1,18 +1,19 @@
-pub mod Pushes
-pub mod Scripts
-pub mod Worlds
-pub mod Steps
-pub mod Events
-pub mod GoingOn
-pub mod Stacks
-pub mod Places
+pub mod ListGrowth
+pub mod ScriptCalls
+pub mod OrderLogs
+pub mod OperationLogs
+pub mod PlainEvents
+pub mod RestOfScript
+pub mod TakenSlots
+pub mod StockPlaces
 mod StockInOrder
-pub mod Doing
-pub mod Starts
-pub mod Retiring
-mod WorkedRetiring
-pub mod Leaving
-pub mod Runs
-pub mod Backs
-pub mod Results
-pub mod Lines
+pub mod OperationEffect
+pub mod RunStart
+pub mod RetiredSlots
+mod WorkedRetirement
+pub mod RunEffect
+pub mod RunLegality
+pub mod ReturnedSlots
+pub mod RackCounts
+pub mod ResultLemmas
+pub mod FaultLines

@@ -1,9 +1,10 @@
-pub mod Words
+pub mod Arguments
 pub mod StockOrder
-pub mod Retired
-pub mod Play
-pub mod Standing
+pub mod RetiredPlaces
+pub mod Operations
+pub mod RunProgress
 pub mod Stops
-pub mod Faults
-pub mod Back
-pub mod Run
+pub mod RackStates
+pub mod RackFaults
+pub mod RunReturns
+pub mod RunReport

@@ -1,10 +1,10 @@
--- What is told where no report is.
-use Rattle.std.specs.Prelude.{codes, ◌≡◌, ◌⊎◌, ℕ, List, Result, Err, IsOk}
-use Rattle.flex_run.specs.declared.stop.Stop.{Stop}
-use Rattle.flex_run.specs.declared.stop.Stop.TheVariants.{Words, Read, Long, Unbuilt, Rack, Memory}
+-- Why there is no report, and what is written in its place.
+use Rattle.std.specs.Prelude.{codes, ◌≡◌, ◌⊎◌, ℕ, Bool, true, false, List, Result, Err, IsOk}
+use Rattle.flex_run.specs.declared.stop.RunStop.{RunStop}
+use Rattle.flex_run.specs.declared.stop.RunStop.TheVariants.{Words, Read, Long, Unbuilt, Rack, Memory}
 
 -- the exit status
-abbrev pub status_of : Stop → ℕ
+abbrev pub status_of : RunStop → ℕ
 status_of Words = 2
 status_of Unbuilt = 3
 status_of Read = 4
@@ -12,8 +12,8 @@ status_of Memory = 6
 status_of Long = 7
 status_of Rack = 8
 
--- the line that tells it
-abbrev pub line_of : Stop → List ℕ
+-- the line that says it
+abbrev pub line_of : RunStop → List ℕ
 line_of Words = codes "fault words\n"
 line_of Unbuilt = codes "fault scenario unbuilt 0 0\n"
 line_of Read = codes "fault read\n"
@@ -21,26 +21,35 @@ line_of Memory = codes "fault memory\n"
 line_of Long = codes "fault long\n"
 line_of Rack = codes "fault rack\n"
 
+-- the run was refused before it took a slot
+abbrev pub is_early : RunStop → Bool
+is_early Words = true
+is_early Unbuilt = true
+is_early Read = true
+is_early Memory = false
+is_early Long = true
+is_early Rack = false
+
 -- why a source is not read
-abbrev pub IsReadStop : Stop → Type 0
+abbrev pub IsReadStop : RunStop → Type 0
 IsReadStop stop = (stop ≡ Read) ⊎ (stop ≡ Long) ⊎ (stop ≡ Memory)
 
 -- why a text gives no scenario
-abbrev pub IsTextStop : Stop → Type 0
+abbrev pub IsTextStop : RunStop → Type 0
 IsTextStop stop = (stop ≡ Unbuilt) ⊎ (stop ≡ Memory)
 
 -- why a play gives no logs
-abbrev pub IsPlayStop : Stop → Type 0
+abbrev pub IsPlayStop : RunStop → Type 0
 IsPlayStop stop = (stop ≡ Rack) ⊎ (stop ≡ Memory)
 
 -- what answers a source that gave too much
-abbrev pub IsTooLong : {T : Type 0} → Result T Stop → Type 0
+abbrev pub IsTooLong : {T : Type 0} → Result T RunStop → Type 0
 IsTooLong result = (result ≡ Err Long) ⊎ (result ≡ Err Read) ⊎ (result ≡ Err Memory)
 
 -- what answers a text that may be played
-abbrev pub IsRunResult : {T : Type 0} → Result T Stop → Type 0
+abbrev pub IsRunResult : {T : Type 0} → Result T RunStop → Type 0
 IsRunResult result = IsOk result ⊎ (result ≡ Err Read) ⊎ (result ≡ Err Rack) ⊎ (result ≡ Err Memory)
 
 -- what answers a text that may not be played
-abbrev pub IsRefusal : {T : Type 0} → Result T Stop → Type 0
-IsRefusal result = (result ≡ Err Unbuilt) ⊎ (result ≡ Err Read) ⊎ (result ≡ Err Memory)
+abbrev pub IsTextRefusal : {T : Type 0} → Result T RunStop → Type 0
+IsTextRefusal result = (result ≡ Err Unbuilt) ⊎ (result ≡ Err Read) ⊎ (result ≡ Err Memory)

@@ -4,26 +4,27 @@ ghost use Rattle.std.specs.Prelude.{List, ◌≡◌, ◌<◌, ◌≤◌, ◌^◌
 ghost use Rattle.std.specs.Result.{IsErrOf};
 ghost use Rattle.flex_io.specs.Faults.{HasRisen};
 ghost use Rattle.domains.specs.Level.{two_copies};
-ghost use Rattle.board_log.specs.declared.entry.BoardEntry.{BoardEntry};
-ghost use Rattle.file_core.specs.Plain.{AllTell, OneEach, HasRoom};
-ghost use Rattle.scenarios.specs.declared.op.Op.{Op};
+ghost use Rattle.board_history.specs.declared.entry.BoardEntry.{BoardEntry};
+ghost use Rattle.plain_file.specs.Plain.{AllTell, OneEach, HasRoom};
+ghost use Rattle.scenario.specs.declared.op.Op.{Op};
 ghost use Rattle.scenario_text.specs.FirstForm.{IsFirstForm};
 ghost use Rattle.report.specs.Script.{HasSerialEpochs};
-ghost use Rattle.report.specs.Legal.{IsLegalRun};
+ghost use Rattle.report.specs.Legal.{IsLegalRunWhere};
 ghost use Rattle.flex_run.specs.StockOrder.{PutsBack};
-ghost use Rattle.flex_run.specs.Back.{BringsBack};
-ghost use Rattle.flex_run.specs.Faults.{SlotFailed, RackFailed};
-ghost use Rattle.flex_run.specs.Play.{slots_taken, by_call, MayDo, Does};
-ghost use Rattle.flex_run.specs.Standing.{entries_of, HasLogs, MayGoOn, Leaves};
+ghost use Rattle.flex_run.specs.RackStates.{rack_state, RisesBy};
+ghost use Rattle.flex_run.specs.RunReport.{HasRoomThroughout, LeavesRack};
+ghost use Rattle.flex_run.specs.RackFaults.{SlotFailed, RackFailed};
+ghost use Rattle.flex_run.specs.Operations.{slots_taken, by_call, MayDo, Does};
+ghost use Rattle.flex_run.specs.RunProgress.{EachTells, entries_of, HasLogs, MayGoOn, Leaves};
 
 use crate::slots::{put_all, take_all};
-use board_log::BoardEntry;
+use board_history::BoardEntry;
 use domains::{By, Level};
-use file_core::plain::{PlainFault, PlainFile, PlainOp, PlainParts, Stock, StockParts};
 use flex_io::{Fault, Gate, Point, Rack, Slot, Steady};
 use lists::List;
+use plain_file::{PlainFault, PlainFile, PlainOp, PlainParts, Stock, StockParts};
 use report::Logs;
-use scenarios::{Op, Scenario, Text};
+use scenario::{Op, Scenario, Text};
 use std::alloc::{AllocError, Global};
 use thiserror::Error;
 
@@ -64,7 +65,7 @@ impl From<AllocError> for PlayFault {
 
 impl From<PlainFault> for PlayFault {
     ghost use Rattle.std.specs.Prelude.{◌≡◌};
-    ghost use Rattle.file_core.specs.declared.plain.op.PlainFault.TheVariants.{Slot};
+    ghost use Rattle.plain_file.specs.declared.op.PlainFault.TheVariants.{Slot};
     ghost use Rattle.flex_run.specs.declared.play.PlayFault.TheVariants.{Rack};
 
     ghost from_gives = { λ fault told. told ≡ Rack → fault ≡ Slot };
@@ -78,7 +79,7 @@ impl From<PlainFault> for PlayFault {
 }
 
 /// Plays a scenario of the first form, and puts all slots back to the rack (docs/ARCHITECTURE.md, "A run"). After a
-/// fault nothing is said of which slots came back.
+/// fault of the rack, or out of memory, any number of slots came back.
 pub fn play_serial<R: Rack, G: Gate>(
     alloc: Global,
     scenario: Scenario,
@@ -89,10 +90,12 @@ where
     R::Piece: Steady,
     requires { IsFirstForm scenario }
     ensures scenario { IfOk result (λ logs. logs.scenario ≡ scenario) }
-    ensures legal { IfOk result (λ logs. IsSome (R.back rack.old) → IsLegalRun logs) }
+    ensures legal { IfOk result (IsLegalRunWhere (IsSome (R.back rack.old))) }
     ensures serial { IfOk result HasSerialEpochs }
-    ensures back { IfOk result (BringsBack (R.back rack.old) (R.back rack.new)) }
-    ensures fault { IsErrOf result PlayFault.Rack → RackFailed R.Piece.place_of R.Piece.faults (R.faults rack.old) (R.faults rack.new) }
+    ensures roomy { IfOk result HasRoomThroughout }
+    ensures rack { IfOk result (λ logs. LeavesRack logs (rack_state R.back R.takes R.puts R.faults rack.old) (rack_state R.back R.takes R.puts R.faults rack.new)) }
+    ensures fault { IsErrOf result PlayFault.Rack → RackFailed R.Piece.place_of R.Piece.faults scenario.shape
+        (rack_state R.back R.takes R.puts R.faults rack.old) (rack_state R.back R.takes R.puts R.faults rack.new) }
     ensures never_falls { R.faults rack.old ≤ R.faults rack.new }
 {
     let slots = take_all(alloc, scenario.shape, rack)?;
@@ -116,9 +119,9 @@ fn play_script<S: Slot + Drop + Steady, G: Gate>(
     requires board { stock.old.board ≡ [] }
     requires begins { Leaves S.place_of S.content scenario.now.shape file.old stock.old file.old stock.old }
     ensures logs { OnOk result ((script : List Op) → scenario.now.actors ≡ script ∷ []
-        → HasLogs (AllTell S.content file.old stock.old) scenario.now script stock.new.board file.new.log) }
+        → HasLogs (EachTells S.content) scenario.now script stock.new.board file.new.log) }
     ensures leaves { OnOk result (Leaves S.place_of S.content scenario.now.shape file.old stock.old file.new stock.new) }
-    ensures fault { IsErrOf result PlainFault.Slot → SlotFailed S.place_of S.faults }
+    ensures fault { IsErrOf result PlainFault.Slot → SlotFailed S.place_of S.faults scenario.now.shape }
 {
     let script = only_script(scenario);
     let mut call = 0;
@@ -160,8 +163,7 @@ fn play_op<S: Slot + Drop + Steady>(
     requires one_each { OneEach S.place_of file.old stock.old }
     requires room { HasRoom S.place_of (slots_taken op.now) stock.old }
     ensures does { OnOk result (Does op.now S.place_of S.content by (AllTell S.content file.old stock.old) file.old stock.old file.new stock.new) }
-    ensures tell { OnOk result (AllTell S.content file.old stock.old → AllTell S.content file.new stock.new) }
-    ensures fault { IsErrOf result PlainFault.Slot → SlotFailed S.place_of S.faults }
+    ensures fault { IsErrOf result PlainFault.Slot → SlotFailed S.place_of S.faults stock.old.shape }
 {
     match op {
         Op::Create { .. } => file.play(alloc, by, &PlainOp::Create, stock),
@@ -190,7 +192,7 @@ fn bytes_of(alloc: Global, text: &Text) -> Result<List<u8>, AllocError>
     Ok(List::from_vec(text.as_str().as_bytes().to_vec(alloc)?))
 }
 
-/// Puts all slots back, the file's group first, then its inode, the retired slots and the free ones, and gives the logs.
+/// Puts all slots back, the file's group first, then its inode, the retired slots and the free ones, and returns the logs.
 fn close<R: Rack>(
     alloc: Global,
     scenario: Scenario,
@@ -203,6 +205,9 @@ where
     ensures logs { IfOk result (λ logs. logs ≡ record { scenario = scenario; board = stock.board; files = entries_of file.log ∷ [] }) }
     ensures back { OnOk result (PutsBack (R.back rack.old) (R.back rack.new) R.Piece.place_of R.Piece.content
         (file.units ++ (file.inode ++ (stock.retired ++ stock.free)))) }
+    ensures takes { R.takes rack.new ≡ R.takes rack.old }
+    ensures puts { OnOk result (RisesBy (length file.units + (length file.inode + (length stock.retired + length stock.free)))
+        (R.puts rack.old) (R.puts rack.new)) }
     ensures fault { IsErrOf result PlayFault.Rack → HasRisen (R.faults rack.old) (R.faults rack.new) }
     ensures never_falls { R.faults rack.old ≤ R.faults rack.new }
 {

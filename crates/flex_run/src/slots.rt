@@ -1,11 +1,12 @@
-//! All slots of a cluster, taken from a rack and put back to it.
+//! All slots of a cluster, taken from a rack and put back.
 
-ghost use Rattle.std.specs.Prelude.{◌≡◌, ◌++◌, ◌≤◌, [], Some, IsSome, IfOk, OnOk};
+ghost use Rattle.std.specs.Prelude.{◌≡◌, ◌++◌, ◌≤◌, ◌*◌, [], length, IfOk, OnOk};
 ghost use Rattle.std.specs.Result.{IsErrOf};
-ghost use Rattle.domains.specs.Cluster.{IsCluster};
+ghost use Rattle.domains.specs.Shape.{IsShape};
 ghost use Rattle.flex_io.specs.Faults.{HasCause};
-ghost use Rattle.file_core.specs.Slots.{Tell};
-ghost use Rattle.flex_run.specs.StockOrder.{drive_stack, node_stacks, stock_order, spots_of, PutsBack};
+ghost use Rattle.flex_run.specs.RackStates.{RisesBy, slot_count};
+ghost use Rattle.held_slots.specs.Slots.{places_from};
+ghost use Rattle.flex_run.specs.StockOrder.{drive_stack, node_stacks, stock_order, PutsBack};
 
 use domains::Shape;
 use flex_io::{Fault, Rack};
@@ -18,8 +19,9 @@ pub(crate) fn take_all<R: Rack>(
     shape: Shape,
     rack: &mut R,
 ) -> Result<List<R::Piece>, Fault>
-    ensures order { IfOk result (λ slots. spots_of R.Piece.place_of slots ≡ stock_order shape) }
-    ensures tell { IfOk result (λ slots. IsSome (R.back rack.old) → Tell R.Piece.content slots) }
+    ensures order { IfOk result (λ slots. places_from R.Piece.place_of slots ≡ stock_order shape) }
+    ensures takes { OnOk result (RisesBy (slot_count shape) (R.takes rack.old) (R.takes rack.new)) }
+    ensures puts { R.puts rack.new ≡ R.puts rack.old }
     ensures same { R.back rack.new ≡ R.back rack.old }
     ensures fault { HasCause result (R.faults rack.old) (R.faults rack.new) }
     ensures never_falls { R.faults rack.old ≤ R.faults rack.new }
@@ -44,9 +46,10 @@ fn take_node<R: Rack>(
     rack: &mut R,
     slots: &mut Vec<R::Piece>,
 ) -> Result<(), Fault>
-    ensures order { OnOk result (spots_of R.Piece.place_of slots.new.items
-        ≡ spots_of R.Piece.place_of slots.old.items ++ node_stacks shape.drives node shape.slots) }
-    ensures tell { IsSome (R.back rack.old) → Tell R.Piece.content slots.old.items → Tell R.Piece.content slots.new.items }
+    ensures order { OnOk result (places_from R.Piece.place_of slots.new.items
+        ≡ places_from R.Piece.place_of slots.old.items ++ node_stacks shape.drives node shape.slots) }
+    ensures takes { OnOk result (RisesBy (shape.drives * shape.slots) (R.takes rack.old) (R.takes rack.new)) }
+    ensures puts { R.puts rack.new ≡ R.puts rack.old }
     ensures same { R.back rack.new ≡ R.back rack.old }
     ensures fault { HasCause result (R.faults rack.old) (R.faults rack.new) }
     ensures never_falls { R.faults rack.old ≤ R.faults rack.new }
@@ -57,16 +60,17 @@ fn take_node<R: Rack>(
     Ok(())
 }
 
-/// Takes so many slots of a drive, the last first.
+/// Takes the first `count` slots of a drive, the last first.
 fn take_drive<R: Rack>(
     count: u16,
     drive: (u8, u8),
     rack: &mut R,
     slots: &mut Vec<R::Piece>,
 ) -> Result<(), Fault>
-    ensures order { OnOk result (spots_of R.Piece.place_of slots.new.items
-        ≡ spots_of R.Piece.place_of slots.old.items ++ drive_stack count (record { node = drive.0; drive = drive.1 })) }
-    ensures tell { IsSome (R.back rack.old) → Tell R.Piece.content slots.old.items → Tell R.Piece.content slots.new.items }
+    ensures order { OnOk result (places_from R.Piece.place_of slots.new.items
+        ≡ places_from R.Piece.place_of slots.old.items ++ drive_stack count (record { node = drive.0; drive = drive.1 })) }
+    ensures takes { OnOk result (RisesBy count (R.takes rack.old) (R.takes rack.new)) }
+    ensures puts { R.puts rack.new ≡ R.puts rack.old }
     ensures same { R.back rack.new ≡ R.back rack.old }
     ensures fault { HasCause result (R.faults rack.old) (R.faults rack.new) }
     ensures never_falls { R.faults rack.old ≤ R.faults rack.new }
@@ -81,6 +85,8 @@ fn take_drive<R: Rack>(
 /// Puts slots back, in their order.
 pub(crate) fn put_all<R: Rack>(rack: &mut R, slots: List<R::Piece>) -> Result<(), Fault>
     ensures back { OnOk result (PutsBack (R.back rack.old) (R.back rack.new) R.Piece.place_of R.Piece.content slots) }
+    ensures takes { R.takes rack.new ≡ R.takes rack.old }
+    ensures puts { OnOk result (RisesBy (length slots) (R.puts rack.old) (R.puts rack.new)) }
     ensures fault { HasCause result (R.faults rack.old) (R.faults rack.new) }
     ensures never_falls { R.faults rack.old ≤ R.faults rack.new }
 {

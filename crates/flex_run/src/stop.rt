@@ -9,9 +9,9 @@ pub(crate) const SINK_FAILED: u8 = 5;
 /// The status where memory ran out.
 pub(crate) const NO_MEMORY: u8 = 6;
 
-/// Why there is no report (docs/FORMATS.md, "Statuses"). Want of memory may come anywhere.
+/// Why there is no report (docs/FORMATS.md, "Statuses"). Memory may run out anywhere.
 #[derive(Clone, Copy, Debug, PartialEq, Eq)]
-pub(crate) enum Stop {
+pub(crate) enum RunStop {
     /// The words are not accepted.
     Words,
     /// The source failed.
@@ -25,19 +25,19 @@ pub(crate) enum Stop {
     Memory,
 }
 
-impl Stop {
-    /// The line that tells it, and the exit status.
-    pub(crate) fn told(self) -> (&'static str, u8)
+impl RunStop {
+    /// The line that says it, and the exit status.
+    pub(crate) fn line_and_status(self) -> (&'static str, u8)
         ensures line { result.0.now ≡ line_of self }
         ensures status { result.1 ≡ status_of self }
     {
         match self {
-            Stop::Words => ("fault words\n", 2),
-            Stop::Unbuilt => ("fault scenario unbuilt 0 0\n", 3),
-            Stop::Read => ("fault read\n", 4),
-            Stop::Memory => ("fault memory\n", NO_MEMORY),
-            Stop::Long => ("fault long\n", 7),
-            Stop::Rack => ("fault rack\n", 8),
+            RunStop::Words => ("fault words\n", 2),
+            RunStop::Unbuilt => ("fault scenario unbuilt 0 0\n", 3),
+            RunStop::Read => ("fault read\n", 4),
+            RunStop::Memory => ("fault memory\n", NO_MEMORY),
+            RunStop::Long => ("fault long\n", 7),
+            RunStop::Rack => ("fault rack\n", 8),
         }
     }
 }

@@ -1,11 +1,12 @@
-//! Runs as they are seen from outside: what the sink takes, and what comes back to the rack.
+//! Runs as they are seen from outside: the status, what the sink takes, and how often the gate is passed.
 
 mod devices;
 mod failing_rack;
 
 use crate::flex;
-use flex_io::{OpenGate, SureRack, SureSink, SureSource};
+use flex_io::{Gate, OpenGate, Point, Rack, Sink, Source, Steady, SureRack, SureSink, SureSource};
 use std::alloc::{AllocError, Global};
+use std::cell::Cell;
 use std::test::Fail;
 
 /// Two nodes of one drive, and a mirrored file that is created, written and read.
@@ -37,12 +38,33 @@ const EDGES: &str =
 const EDGES_REPORT: &str =
     "report 1\nunit = 8\nnodes = 3\ndrives = 2\nslots = 4\nworkers = 1\n[[file]]\nname = \"a\"\nlevel = \"2x\"\n[[actor]]\nops = [\n\"create a\",\n\"write a 0 text:hello\",\n\"fail 2/1\",\n\"read a 3 10\",\n\"read a 0 0\",\n\"read a 9 4\",\n]\nboard 1\n1.3 fail 2/1 changed\nengine 0\nfile a 5\n1.1 e0 create 2x inode 0=1+1@1/1:0,2/1:0\n1.2 e0 write 0 5 size 5 old - new 1=1+1@2/1:1,3/1:0 inode 2=1+1@3/1:1,1/1:1\n1.4 e1 read 3 10 shown 6c6f\n1.5 e1 read 0 0 shown -\n1.6 e1 read 9 4 shown -\nend\n";
 
-/// A drive is lost that holds a copy of the inode which the write replaces.
-const REPLACED: &str =
-    "unit = 8\nnodes = 3\ndrives = 1\nslots = 3\n[[file]]\nname = \"a\"\nlevel = \"2x\"\n[[actor]]\nops = [\"create a\", \"fail 2/1\", \"write a 0 text:hello\", \"read a 0 8\"]\n";
+/// The status of a run with one argument, over these devices.
+pub(crate) fn run<So: Source, Si: Sink, R: Rack>(
+    alloc: Global,
+    word: &str,
+    source: &mut So,
+    sink: &mut Si,
+    rack: &mut R,
+) -> Result<u8, Fail>
+where
+    R::Piece: Steady,
+{
+    let words = vec![in alloc; String::from_str(alloc, word)?]?;
+    Ok(flex(alloc, words.as_slice(), source, sink, rack, &OpenGate))
+}
 
-pub(crate) fn words(alloc: Global, word: &str) -> Result<Vec<String>, Fail> {
-    Ok(vec![in alloc; String::from_str(alloc, word)?]?)
+/// The status of a run over devices that never fail, and what the sink took.
+pub(crate) fn played(alloc: Global, word: &str, source: Vec<u8>) -> Result<(u8, SureSink), Fail> {
+    let mut source = SureSource::new(source);
+    let mut sink = SureSink::new(alloc);
+    let status = run(
+        alloc,
+        word,
+        &mut source,
+        &mut sink,
+        &mut SureRack::new(alloc),
+    )?;
+    Ok((status, sink))
 }
 
 #[test]
@@ -56,18 +78,7 @@ fn sources_run_as_documented(rt: HostRuntime) -> Result<(), Fail> {
         ("run", "", 3, "fault scenario unbuilt 0 0\n"),
         ("play", FIRST, 2, "fault words\n"),
     ] {
-        let mut source = SureSource::new(source.as_bytes().to_vec(alloc)?);
-        let mut sink = SureSink::new(alloc);
-        let mut rack = SureRack::new(alloc);
-        let words = words(alloc, word)?;
-        let answer = flex(
-            alloc,
-            words.as_slice(),
-            &mut source,
-            &mut sink,
-            &mut rack,
-            &OpenGate,
-        );
+        let (answer, sink) = played(alloc, word, source.as_bytes().to_vec(alloc)?)?;
         assert_eq!(rt; answer, status);
         assert_eq!(rt; sink.as_slice(), taken.as_bytes());
     }
@@ -97,117 +108,42 @@ fn what_is_not_of_the_form_is_unbuilt(rt: HostRuntime) -> Result<(), Fail> {
         ),
         (nothing, b"[[actor]]\nops = [\"read a 0 5\"]\n".as_slice()),
     ] {
-        let mut source = SureSource::new(framed(alloc, before, behind)?);
-        let mut sink = SureSink::new(alloc);
-        let words = words(alloc, "run")?;
-        let answer = flex(
-            alloc,
-            words.as_slice(),
-            &mut source,
-            &mut sink,
-            &mut SureRack::new(alloc),
-            &OpenGate,
-        );
+        let (answer, _) = played(alloc, "run", framed(alloc, before, behind)?)?;
         assert_eq!(rt; answer, 3);
-        assert_eq!(rt; sink.as_slice(), b"fault scenario unbuilt 0 0\n".as_slice());
     }
     Ok(())
 }
 
-#[test]
-fn all_slots_come_back_the_file_s_first(rt: HostRuntime) -> Result<(), Fail> {
-    let alloc = rt.alloc();
-    let mut source = SureSource::new(FIRST.as_bytes().to_vec(alloc)?);
-    let mut rack = SureRack::new(alloc);
-    let words = words(alloc, "run")?;
-    flex(
-        alloc,
-        words.as_slice(),
-        &mut source,
-        &mut SureSink::new(alloc),
-        &mut rack,
-        &OpenGate,
-    );
-    assert_eq!(rt; rack.back().len(), 32);
-    let first = &rack.back()[0];
-    assert_eq!(rt;
-        (first.place.node, first.place.drive, first.place.slot),
-        (2, 1, 1)
-    );
-    assert_eq!(rt; first.bytes.as_slice(), b"hello\0\0\0".as_slice());
-    Ok(())
+/// Counts how often actor 1 passes it after an operation.
+#[derive(Drop)]
+struct CountingGate {
+    passed: Cell<u32>,
+}
+
+impl Gate for CountingGate {
+    fn pass(&self, point: Point, actor: u8) {
+        if point == Point::AfterDone && actor == 1 {
+            self.passed.set(self.passed.get().saturating_add(1));
+        }
+    }
 }
 
 #[test]
-fn the_slot_of_a_lost_drive_comes_back_behind_the_file_s(rt: HostRuntime) -> Result<(), Fail> {
+fn the_gate_is_passed_after_each_operation(rt: HostRuntime) -> Result<(), Fail> {
     let alloc = rt.alloc();
-    let mut source = SureSource::new(REPLACED.as_bytes().to_vec(alloc)?);
-    let mut rack = SureRack::new(alloc);
-    let words = words(alloc, "run")?;
-    let answer = flex(
+    let gate = CountingGate {
+        passed: Cell::new(0),
+    };
+    let words = vec![in alloc; String::from_str(alloc, "run")?]?;
+    let status = flex(
         alloc,
         words.as_slice(),
-        &mut source,
+        &mut SureSource::new(LOSSES.as_bytes().to_vec(alloc)?),
         &mut SureSink::new(alloc),
-        &mut rack,
-        &OpenGate,
+        &mut SureRack::new(alloc),
+        &gate,
     );
-    assert_eq!(rt; answer, 0);
-    assert_eq!(rt; rack.back().len(), 9);
-    // The old inode's slot on 2/1 is retired, and the two slots of 2/1 that were never used are free.
-    let behind = [(2, 1, 0), (1, 1, 0), (2, 1, 2), (2, 1, 1), (3, 1, 2)];
-    for (slot, place) in rack.back()[4..].iter().zip(behind.iter()) {
-        assert_eq!(rt;
-            (slot.place.node, slot.place.drive, slot.place.slot),
-            *place
-        );
-    }
-    Ok(())
-}
-
-#[test]
-fn the_free_slots_come_back_in_order(rt: HostRuntime) -> Result<(), Fail> {
-    let alloc = rt.alloc();
-    let mut source = SureSource::new(EDGES.as_bytes().to_vec(alloc)?);
-    let mut rack = SureRack::new(alloc);
-    let words = words(alloc, "run")?;
-    flex(
-        alloc,
-        words.as_slice(),
-        &mut source,
-        &mut SureSink::new(alloc),
-        &mut rack,
-        &OpenGate,
-    );
-    assert_eq!(rt; rack.back().len(), 24);
-    // The first inode's slots 0 of 1/1 and 2/1 are back, and the file holds slot 1 of both and two slots of 3/1.
-    let free = [
-        (1, 1, 3),
-        (1, 1, 2),
-        (1, 1, 0),
-        (1, 2, 3),
-        (1, 2, 2),
-        (1, 2, 1),
-        (1, 2, 0),
-        (2, 1, 3),
-        (2, 1, 2),
-        (2, 1, 0),
-        (2, 2, 3),
-        (2, 2, 2),
-        (2, 2, 1),
-        (2, 2, 0),
-        (3, 1, 3),
-        (3, 1, 2),
-        (3, 2, 3),
-        (3, 2, 2),
-        (3, 2, 1),
-        (3, 2, 0),
-    ];
-    for (slot, place) in rack.back()[4..].iter().zip(free.iter()) {
-        assert_eq!(rt;
-            (slot.place.node, slot.place.drive, slot.place.slot),
-            *place
-        );
-    }
+    assert_eq!(rt; status, 0);
+    assert_eq!(rt; gate.passed.get(), 7);
     Ok(())
 }

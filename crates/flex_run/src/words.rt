@@ -1,7 +1,7 @@
 //! The words that the program takes.
 
 ghost use Rattle.std.specs.Prelude.{IsTrue, ◌↔◌};
-ghost use Rattle.flex_run.specs.Words.{IsAccepted};
+ghost use Rattle.flex_run.specs.Arguments.{IsAccepted};
 
 /// Whether the words are the one `run`.
 pub fn is_run(words: &[String]) -> bool

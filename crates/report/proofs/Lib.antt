@@ -1,3 +1,3 @@
-mod FirstScenario
-pub mod Refusals
-pub mod Blocks
+mod WorkedFirstScenario
+pub mod RefusalText
+pub mod FileBlocks

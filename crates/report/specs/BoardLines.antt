@@ -1,14 +1,14 @@
 -- The lines of the board's log.
 use Rattle.std.specs.Prelude.{codes, ℕ, List, [], ◌∷◌, ◌++◌}
 use Rattle.std.specs.Fmt.{decimal}
-use Rattle.scenarios.specs.Ops.{drive_text}
-use Rattle.board_log.specs.declared.entry.State.{State}
-use Rattle.board_log.specs.declared.entry.State.TheVariants as state
-use Rattle.board_log.specs.declared.entry.Order.{Order}
-use Rattle.board_log.specs.declared.entry.Order.TheVariants as order
-use Rattle.board_log.specs.declared.entry.Effect.{Effect}
-use Rattle.board_log.specs.declared.entry.Effect.TheVariants as effect
-use Rattle.board_log.specs.declared.entry.BoardEntry.{BoardEntry}
+use Rattle.scenario.specs.Ops.{drive_text}
+use Rattle.board_history.specs.declared.entry.State.{State}
+use Rattle.board_history.specs.declared.entry.State.TheVariants as state
+use Rattle.board_history.specs.declared.entry.Order.{Order}
+use Rattle.board_history.specs.declared.entry.Order.TheVariants as order
+use Rattle.board_history.specs.declared.entry.Effect.{Effect}
+use Rattle.board_history.specs.declared.entry.Effect.TheVariants as effect
+use Rattle.board_history.specs.declared.entry.BoardEntry.{BoardEntry}
 use Rattle.report.specs.Words.{line_feed, by_text}
 
 abbrev pub state_text : State → List ℕ

@@ -1,10 +1,10 @@
 -- The text of a run's logs.
 use Rattle.std.specs.Prelude.{codes, ℕ, List, [], ◌∷◌, ◌++◌, length}
 use Rattle.std.specs.Fmt.{decimal}
-use Rattle.scenarios.specs.Canonical.{canonical_text}
-use Rattle.scenarios.specs.declared.scenario.FileDecl.{FileDecl}
-use Rattle.board_log.specs.declared.entry.BoardEntry.{BoardEntry}
-use Rattle.file_core.specs.declared.entry.FileEntry.{FileEntry}
+use Rattle.scenario.specs.Canonical.{canonical_text}
+use Rattle.scenario.specs.declared.scenario.FileDecl.{FileDecl}
+use Rattle.board_history.specs.declared.entry.BoardEntry.{BoardEntry}
+use Rattle.file_history.specs.declared.entry.FileEntry.{FileEntry}
 use Rattle.report.specs.Words.{line_feed}
 use Rattle.report.specs.BoardLines.{board_lines}
 use Rattle.report.specs.FileLines.{file_lines}

@@ -1,14 +1,14 @@
 -- The two parts of a refusal's line: the operation, and why it was refused.
 use Rattle.std.specs.Prelude.{codes, ℕ, List, ◌++◌}
 use Rattle.std.specs.Fmt.{decimal}
-use Rattle.domains.specs.Level.{Row, level_name}
-use Rattle.file_core.specs.declared.entry.Refused.{Refused}
-use Rattle.file_core.specs.declared.entry.Refused.TheVariants as refused
+use Rattle.domains.specs.Level.{Level, level_name}
+use Rattle.file_history.specs.declared.entry.Refused.{Refused}
+use Rattle.file_history.specs.declared.entry.Refused.TheVariants as refused
 use Rattle.report.specs.Words.{drives_text}
 use Rattle.report.specs.FileLines.{create_text, range_text}
 
 -- the operation that was refused, of a file that was declared with this level
-unfoldable pub operation_text : Row → Refused → List ℕ
+unfoldable pub operation_text : Level → Refused → List ℕ
 operation_text declared refused.CreateExists = create_text declared
 operation_text declared (refused.CreateTooFew fault) = create_text declared
 operation_text declared (refused.CreateNoRoom need got drives) = create_text declared

@@ -3,19 +3,19 @@ use Rattle.std.specs.Prelude.{◌≡◌, ℕ, ◌+◌, ◌-◌, ◌==◌, ◌<�
 use Rattle.std.specs.Option.{option_map_or}
 use Rattle.std.specs.List.{AllByRecursion}
 use Rattle.domains.specs.declared.by.By.{By}
-use Rattle.scenarios.specs.Ops.{payload_of}
-use Rattle.scenarios.specs.declared.op.Op.{Op}
-use Rattle.scenarios.specs.declared.op.Op.TheVariants as op
-use Rattle.scenarios.specs.declared.scenario.Scenario.{Scenario}
-use Rattle.board_log.specs.declared.entry.BoardEntry.{BoardEntry}
-use Rattle.board_log.specs.declared.entry.Order.{Order}
-use Rattle.board_log.specs.declared.entry.Order.TheVariants as order
-use Rattle.file_core.specs.declared.entry.Refused.{Refused}
-use Rattle.file_core.specs.declared.entry.Refused.TheVariants as refused
-use Rattle.file_core.specs.declared.entry.FileEvent.{FileEvent}
-use Rattle.file_core.specs.declared.entry.FileEvent.TheVariants as event
-use Rattle.file_core.specs.declared.entry.FileEntry.{FileEntry}
-use Rattle.file_core.specs.declared.entry.Told.{Told}
+use Rattle.scenario.specs.Ops.{payload_of}
+use Rattle.scenario.specs.declared.op.Op.{Op}
+use Rattle.scenario.specs.declared.op.Op.TheVariants as op
+use Rattle.scenario.specs.declared.scenario.Scenario.{Scenario}
+use Rattle.board_history.specs.declared.entry.BoardEntry.{BoardEntry}
+use Rattle.board_history.specs.declared.entry.Order.{Order}
+use Rattle.board_history.specs.declared.entry.Order.TheVariants as order
+use Rattle.file_history.specs.declared.entry.Refused.{Refused}
+use Rattle.file_history.specs.declared.entry.Refused.TheVariants as refused
+use Rattle.file_history.specs.declared.entry.FileEvent.{FileEvent}
+use Rattle.file_history.specs.declared.entry.FileEvent.TheVariants as event
+use Rattle.file_history.specs.declared.entry.FileEntry.{FileEntry}
+use Rattle.file_history.specs.declared.entry.NotedEntry.{NotedEntry}
 use Rattle.report.specs.declared.logs.Logs.{Logs}
 
 -- the operation of this number, from 1, of the actor of this number, from 1
@@ -25,12 +25,12 @@ op_at s by = if nat_lt 0 by.actor && nat_lt 0 by.call
     else None
 
 -- the entry with the bytes that its operation writes
-abbrev pub told_in : Scenario → FileEntry → Told
-told_in s e = record { entry = e; payload = option_map_or payload_of (op_at s e.by) [] }
+abbrev pub noted_in : Scenario → FileEntry → NotedEntry
+noted_in s e = record { entry = e; payload = option_map_or payload_of (op_at s e.by) [] }
 
-abbrev pub all_told : Scenario → List FileEntry → List Told
-all_told s [] = []
-all_told s (e ∷ es) = told_in s e ∷ all_told s es
+abbrev pub noted_entries : Scenario → List FileEntry → List NotedEntry
+noted_entries s [] = []
+noted_entries s (e ∷ es) = noted_in s e ∷ noted_entries s es
 
 -- the operation writes this range of the file
 abbrev pub IsWriteOf : ℕ → ℕ → ℕ → Op → Type 0

@@ -2,10 +2,11 @@
 use Rattle.std.specs.Prelude.{codes, ℕ, List, [], ◌∷◌, ◌++◌}
 use Rattle.std.specs.Fmt.{decimal}
 use Rattle.hex.specs.Hex.{encode_lower}
-use Rattle.domains.specs.Drive.{Drive, Spot}
+use Rattle.domains.specs.Drive.{Drive}
+use Rattle.domains.specs.Place.{Place}
 use Rattle.domains.specs.declared.by.By.{By}
 use Rattle.domains.specs.declared.group.Group.{Group}
-use Rattle.scenarios.specs.Ops.{drive_text}
+use Rattle.scenario.specs.Ops.{drive_text}
 
 abbrev pub line_feed : List ℕ
 line_feed = 10 ∷ []
@@ -15,16 +16,16 @@ unfoldable pub by_text : By → List ℕ
 by_text by = decimal by.actor ++ codes "." ++ decimal by.call
 
 -- a place: its drive and its slot, parted by a colon
-unfoldable pub place_text : Spot → List ℕ
+unfoldable pub place_text : Place → List ℕ
 place_text s = drive_text s.drive ++ codes ":" ++ decimal s.slot
 
 -- the places behind the first, each after a comma
-abbrev pub more_places : List Spot → List ℕ
+abbrev pub more_places : List Place → List ℕ
 more_places [] = []
 more_places (s ∷ ss) = codes "," ++ place_text s ++ more_places ss
 
 -- places parted by commas, or a dash
-abbrev pub places_text : List Spot → List ℕ
+abbrev pub places_text : List Place → List ℕ
 places_text [] = codes "-"
 places_text (s ∷ ss) = place_text s ++ more_places ss
 

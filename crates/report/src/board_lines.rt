@@ -4,7 +4,7 @@ ghost use Rattle.std.specs.Prelude.{◌≡◌, ◌++◌, string_bytes, OnOk};
 ghost use Rattle.report.specs.BoardLines.{state_text, effect_text, order_text, board_line, board_lines};
 
 use crate::words::{write_by, write_drive};
-use board_log::{BoardEntry, Effect, Order, State};
+use board_history::{BoardEntry, Effect, Order, State};
 use std::alloc::AllocError;
 use std::fmt::Write;
 

@@ -6,7 +6,7 @@ ghost use Rattle.report.specs.RefusedParts.{operation_text, reason_text};
 
 use crate::words::{write_by, write_bytes, write_drives, write_group, write_groups, write_numbers};
 use domains::Level;
-use file_core::{Change, FileEntry, FileEvent, Refused};
+use file_history::{Change, FileEntry, FileEvent, Refused};
 use std::alloc::AllocError;
 use std::fmt::Write;
 

@@ -1,9 +1,9 @@
 //! The logs of a run.
 
-use board_log::BoardEntry;
-use file_core::FileLog;
+use board_history::BoardEntry;
+use file_history::FileLog;
 use lists::List;
-use scenarios::Scenario;
+use scenario::Scenario;
 
 /// What a run of the scenario logged: the board's entries, and those of each file in scenario order.
 #[derive(Debug, Drop)]

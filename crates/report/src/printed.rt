@@ -5,9 +5,9 @@ ghost use Rattle.report.specs.Printed.{board_block, file_block, file_blocks, pri
 
 use crate::logs::Logs;
 use crate::{board_lines, file_lines};
-use board_log::BoardEntry;
-use file_core::{FileEntry, FileLog};
-use scenarios::{FileDecl, write_scenario};
+use board_history::BoardEntry;
+use file_history::{FileEntry, FileLog};
+use scenario::{FileDecl, write_scenario};
 use std::alloc::{AllocError, Global};
 use std::fmt::Write;
 

@@ -3,11 +3,11 @@
 ghost use Rattle.std.specs.Prelude.{◌<◌};
 
 use crate::{Logs, board_lines, file_lines, print};
-use board_log::{BoardEntry, Effect, Order, State};
+use board_history::{BoardEntry, Effect, Order, State};
 use domains::{By, DriveId, Group, Level, Lost, Place, Shape, TooFew};
-use file_core::{Change, FileEntry, FileEvent, Refused};
+use file_history::{Change, FileEntry, FileEvent, Refused};
 use lists::List;
-use scenarios::{FileDecl, Name, Op, Scenario, Text};
+use scenario::{FileDecl, Name, Op, Scenario, Text};
 use std::alloc::{AllocError, Global};
 use std::test::Fail;
 

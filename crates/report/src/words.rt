@@ -1,7 +1,7 @@
 //! The words of a report's lines (docs/FORMATS.md, "Report").
 
 ghost use Rattle.std.specs.Prelude.{◌≡◌, ◌++◌, string_bytes, OnOk};
-ghost use Rattle.scenarios.specs.Ops.{drive_text};
+ghost use Rattle.scenario.specs.Ops.{drive_text};
 ghost use Rattle.report.specs.Words.{by_text, place_text, more_places, places_text, more_drives, drives_text, more_numbers, numbers_text, group_text, more_groups, groups_text, bytes_text};
 
 use domains::{By, DriveId, Group, Place};
@@ -15,7 +15,7 @@ pub(crate) fn write_by(text: &mut String, by: By) -> Result<(), AllocError>
     write!(text, "{}.{}", by.actor, by.call)
 }
 
-#[tactic(auto, unfolding(scenarios::specs::Ops::drive_text))]
+#[tactic(auto, unfolding(scenario::specs::Ops::drive_text))]
 pub(crate) fn write_drive(text: &mut String, drive: DriveId) -> Result<(), AllocError>
     ensures { OnOk result (string_bytes text.new ≡ string_bytes text.old ++ drive_text drive) }
 {

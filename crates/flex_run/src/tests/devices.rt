@@ -2,10 +2,9 @@
 
 ghost use Rattle.std.specs.Prelude.{Some};
 
-use crate::flex;
 use crate::tests::failing_rack::{Failing, FailingRack};
-use crate::tests::{FIRST, FIRST_REPORT, words};
-use flex_io::{Fault, MemorySink, MemorySource, OpenGate, Sink, SureRack, SureSink, SureSource};
+use crate::tests::{FIRST, FIRST_REPORT, played, run};
+use flex_io::{Fault, MemorySink, MemorySource, Sink, SureRack, SureSink, SureSource};
 use lists::List;
 use std::alloc::{AllocError, Global};
 use std::test::Fail;
@@ -14,7 +13,7 @@ use std::test::Fail;
 const LIMIT: usize = 1_048_576;
 
 #[test]
-fn a_device_that_fails_is_told(rt: HostRuntime) -> Result<(), Fail> {
+fn a_source_or_sink_that_fails_has_its_status(rt: HostRuntime) -> Result<(), Fail> {
     let alloc = rt.alloc();
     for (source_fails, sink_fails, status, taken) in [
         (1, 9, 4, "fault read\n"),
@@ -25,16 +24,13 @@ fn a_device_that_fails_is_told(rt: HostRuntime) -> Result<(), Fail> {
         let sink_fails = List::from_vec(vec![in alloc; sink_fails]?);
         let mut source = MemorySource::new(FIRST.as_bytes().to_vec(alloc)?, source_fails);
         let mut sink = MemorySink::new(alloc, sink_fails);
-        let mut rack = SureRack::new(alloc);
-        let words = words(alloc, "run")?;
-        let answer = flex(
+        let answer = run(
             alloc,
-            words.as_slice(),
+            "run",
             &mut source,
             &mut sink,
-            &mut rack,
-            &OpenGate,
-        );
+            &mut SureRack::new(alloc),
+        )?;
         assert_eq!(rt; answer, status);
         assert_eq!(rt; sink.as_slice(), taken.as_bytes());
     }
@@ -61,7 +57,7 @@ impl Sink for Slow {
 }
 
 #[test]
-fn a_sink_that_fails_half_way_has_a_front(rt: HostRuntime) -> Result<(), Fail> {
+fn a_sink_that_fails_half_way_has_a_prefix(rt: HostRuntime) -> Result<(), Fail> {
     let alloc = rt.alloc();
     for (fails, status, taken) in [(100_000, 0, FIRST_REPORT), (10, 5, "report 1\n")] {
         let fails = List::from_vec(vec![in alloc; fails]?);
@@ -69,22 +65,20 @@ fn a_sink_that_fails_half_way_has_a_front(rt: HostRuntime) -> Result<(), Fail> {
         let mut sink = Slow {
             inner: MemorySink::new(alloc, fails),
         };
-        let words = words(alloc, "run")?;
-        let answer = flex(
+        let answer = run(
             alloc,
-            words.as_slice(),
+            "run",
             &mut source,
             &mut sink,
             &mut SureRack::new(alloc),
-            &OpenGate,
-        );
+        )?;
         assert_eq!(rt; answer, status);
         assert_eq!(rt; sink.inner.as_slice(), taken.as_bytes());
     }
     Ok(())
 }
 
-/// The first scenario with a comment behind it, of so many bytes in all.
+/// The first scenario with a comment behind it, `count` bytes in all.
 fn commented(alloc: Global, count: usize) -> Result<Vec<u8>, AllocError> {
     let mut bytes = FIRST.as_bytes().to_vec(alloc)?;
     bytes.resize(count, b'#')?;
@@ -95,17 +89,7 @@ fn commented(alloc: Global, count: usize) -> Result<Vec<u8>, AllocError> {
 fn a_source_at_its_limit_is_played(rt: HostRuntime) -> Result<(), Fail> {
     let alloc = rt.alloc();
     for (count, status, taken) in [(LIMIT, 0, FIRST_REPORT), (LIMIT + 1, 7, "fault long\n")] {
-        let mut source = SureSource::new(commented(alloc, count)?);
-        let mut sink = SureSink::new(alloc);
-        let words = words(alloc, "run")?;
-        let answer = flex(
-            alloc,
-            words.as_slice(),
-            &mut source,
-            &mut sink,
-            &mut SureRack::new(alloc),
-            &OpenGate,
-        );
+        let (answer, sink) = played(alloc, "run", commented(alloc, count)?)?;
         assert_eq!(rt; answer, status);
         assert_eq!(rt; sink.as_slice(), taken.as_bytes());
     }
@@ -117,20 +101,12 @@ fn over(alloc: Global, failing: Failing) -> Result<(u8, SureSink), Fail> {
     let mut source = SureSource::new(FIRST.as_bytes().to_vec(alloc)?);
     let mut sink = SureSink::new(alloc);
     let mut rack = FailingRack::new(alloc, failing);
-    let words = words(alloc, "run")?;
-    let status = flex(
-        alloc,
-        words.as_slice(),
-        &mut source,
-        &mut sink,
-        &mut rack,
-        &OpenGate,
-    );
+    let status = run(alloc, "run", &mut source, &mut sink, &mut rack)?;
     Ok((status, sink))
 }
 
 #[test]
-fn a_rack_that_fails_at_any_call_is_told(rt: HostRuntime) -> Result<(), Fail> {
+fn a_rack_that_fails_at_any_call_has_its_status(rt: HostRuntime) -> Result<(), Fail> {
     let alloc = rt.alloc();
     for number in 1..33 {
         for failing in [Failing::Take(number), Failing::Put(number)] {
@@ -146,7 +122,7 @@ fn a_rack_that_fails_at_any_call_is_told(rt: HostRuntime) -> Result<(), Fail> {
 }
 
 #[test]
-fn a_slot_that_fails_is_told(rt: HostRuntime) -> Result<(), Fail> {
+fn a_slot_that_fails_has_its_status(rt: HostRuntime) -> Result<(), Fail> {
     let alloc = rt.alloc();
     for (slot, status, taken) in [
         (0, 8, "fault rack\n"),

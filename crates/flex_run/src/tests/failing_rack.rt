@@ -1,6 +1,7 @@
 //! A rack in memory that fails at one call.
 
 ghost use Rattle.std.specs.Prelude.{◌≡◌, ◌≤◌, ◌<◌, [], Some, length, ⊤, IsOk};
+ghost use Rattle.std.proofs.Common.{refl};
 
 use flex_io::{Failed, Fault, Rack, RawPlace, Slot, Steady, SurePiece, SureRack};
 use std::alloc::Global;
@@ -19,8 +20,8 @@ pub(crate) enum Failing {
 pub(crate) struct FailingRack {
     inner: SureRack,
     failing: Failing,
-    takes: u32,
-    puts: u32,
+    take_calls: u32,
+    put_calls: u32,
     faults: u64,
 }
 
@@ -29,8 +30,8 @@ impl FailingRack {
         FailingRack {
             inner: SureRack::new(alloc),
             failing,
-            takes: 0,
-            puts: 0,
+            take_calls: 0,
+            put_calls: 0,
             faults: 0,
         }
     }
@@ -39,13 +40,17 @@ impl FailingRack {
 impl Rack for FailingRack {
     type Piece = FailingPiece;
 
-    ghost back = { λ r. Some r.inner };
+    ghost back = { λ r. Some r.inner.back };
+
+    ghost takes = { λ r. r.inner.takes };
+
+    ghost puts = { λ r. r.inner.puts };
 
     ghost faults = { λ r. r.faults };
 
     fn take(&mut self, drive: (u8, u8), slot: u16) -> Result<FailingPiece, Fault> {
-        self.takes = self.takes.saturating_add(1);
-        if self.failing == Failing::Take(self.takes) {
+        self.take_calls = self.take_calls.saturating_add(1);
+        if self.failing == Failing::Take(self.take_calls) {
             self.faults = self.faults.saturating_add(1);
             return Err(Fault::Failed);
         }
@@ -59,14 +64,16 @@ impl Rack for FailingRack {
     }
 
     fn put(&mut self, piece: FailingPiece) -> Result<(), Fault> {
-        self.puts = self.puts.saturating_add(1);
-        if self.failing == Failing::Put(self.puts) {
+        self.put_calls = self.put_calls.saturating_add(1);
+        if self.failing == Failing::Put(self.put_calls) {
             self.faults = self.faults.saturating_add(1);
             return Err(Fault::Failed);
         }
         let FailingPiece { inner, .. } = piece;
         self.inner.put(inner)
     }
+
+    ghost tells = { λ _ _ _. refl };
 }
 
 /// A slot of such a rack.

@@ -1,7 +1,7 @@
 use Rattle.std.proofs.Common.{codes, ◌≡◌, Bool, string_bytes, sym, subst}
 use Rattle.std.specs.Bool.{Decides}
 use Rattle.std.proofs.lemmas.Slice.Eq.{bytes_eq-Decides}
-use Rattle.flex_run.proofs.Pushes.{map-one, only_word}
+use Rattle.flex_run.proofs.ListGrowth.{map-one, only_word}
 use Rattle.flex_run.proofs.words.is_run.Goals as goal
 
 pub returns-then-words-eq1 : goal.returns-then-words-eq1

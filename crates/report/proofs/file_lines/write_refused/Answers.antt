@@ -1,5 +1,5 @@
 use Rattle.std.proofs.lemmas.Result.{on_ok_weaker}
-use Rattle.report.proofs.Refusals.{refused_written}
+use Rattle.report.proofs.RefusalText.{refused_written}
 use Rattle.report.proofs.file_lines.write_refused.Goals as goal
 
 pub returns : goal.returns

@@ -1,5 +1,5 @@
 use Rattle.std.proofs.lemmas.Slice.Zip.{either_empty_from_Zip}
-use Rattle.report.proofs.Blocks.{all_written}
+use Rattle.report.proofs.FileBlocks.{all_written}
 use Rattle.report.proofs.printed.write_files.Goals as goal
 
 pub returns : goal.returns

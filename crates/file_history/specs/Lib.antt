@@ -1,0 +1,10 @@
+pub mod World
+pub mod Views
+pub mod Bytes
+pub mod Layout
+pub mod Live
+pub mod WriteRule
+pub mod Refusals
+pub mod Step
+pub mod Stored
+pub mod Laws

@@ -1,0 +1,10 @@
+pub mod Slots
+pub mod Plain
+pub mod FreeOrder
+pub mod Mirrors
+pub mod StockParts
+pub mod Draws
+pub mod LastMoment
+pub mod LiveMirrors
+pub mod FileParts
+pub mod Drives
