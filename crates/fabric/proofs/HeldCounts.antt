@@ -1,5 +1,5 @@
 -- What a hand holds is known modulo 2^64.
-use Rattle.std.proofs.Common.{◌≡◌, ℕ, ◌+◌, ◌-◌, ◌%◌, ◌^◌, true, ap, sym, subst, arith}
+use Rattle.std.proofs.Common.{◌≡◌, ℕ, ◌+◌, ◌-◌, ◌%◌, ◌^◌, true, ap, arith}
 use Rattle.domains.specs.Counts.{one_if}
 use Rattle.domains.specs.Shape.{Shape, is_of}
 use Rattle.domains.specs.Drive.{Drive, same_drive}

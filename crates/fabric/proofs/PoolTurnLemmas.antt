@@ -7,9 +7,9 @@ use Rattle.held_slots.specs.declared.empty.Empty.{Empty}
 use Rattle.held_slots.specs.Slots.{IsOn, place_from}
 use Rattle.slot_pool.proofs.ClosedPool.{drive_slots}
 use Rattle.slot_pool.specs.Pools.{PoolView, IsPool, counted}
-use Rattle.slot_pool.specs.Tallies.{found_none, gave, took}
+use Rattle.slot_pool.specs.Tallies.{found_none, gave, numbers_of, tally_at, took}
 use Rattle.slot_pool.specs.declared.chronicle.DriveSlots.{DriveSlots}
-use Rattle.turn_cell.specs.Seats.{SeatView, in_turn, left}
+use Rattle.turn_cell.specs.Seats.{Enters, SeatView, in_turn, left}
 use Rattle.fabric.specs.PoolTurns.{FindsAll, FindsNone, FollowsPool, Gives, PoolTurn, Takes}
 
 -- the seat is in no turn, at its cell and with its number
@@ -26,6 +26,12 @@ module _ {S : Type 0} where
   -- the pool once its turn has passed
   abbrev pub passed : PoolView S → PoolView S
   passed p = record p { turns = p.turns + 1 }
+
+  -- what a turn at a pool tells at its start
+  abbrev pub EntersPool : SeatView (PoolView S) → SeatView (PoolView S) → PoolView S → PoolView S → Type 0
+  EntersPool before within x state =
+      Enters {E = Unit {0}} {F = DriveSlots} (λ (p : PoolView S). p.turns) (λ (p : PoolView S). []) (λ (p : PoolView S) (k : ℕ). numbers_of (tally_at p.tallies k)) (λ (p : PoolView S). record { drive = p.drive; slots = p.slots })
+      (λ (p : PoolView S) (number : ℕ). record p { seat = number }) before within x state
 
   -- what a turn leaves of its seat
   pub remains : (how : PoolView S → PoolView S) (p : PoolView S) (old new : SeatView (PoolView S)) → PoolTurn how p old new → Remains old new
@@ -49,6 +55,18 @@ module _ {S : Type 0} (place_of : S → RawPlace) where
     pub begins : state ≡ record x { seat = before.number }
     pub pool : IsPool place_of y
     pub leaves : after ≡ left before (x.turns + 1) (passed y)
+
+  -- what the turn told at its start and at its end
+  pub pool_turned : (before within after : SeatView (PoolView S)) (x begun state y : PoolView S) → EntersPool before within x begun → state ≡ begun → IsPool place_of y
+      → after ≡ left within (x.turns + 1) (passed y) → PoolTurned before after x state y
+  pool_turned before within after x begun state y entered same pool leaves = record {
+    turns = entered.turns;
+    follows = entered.follows;
+    lone = entered.lone;
+    begins = same ∙ entered.begins;
+    pool = pool;
+    leaves = has_left before within after _ _ entered.seat leaves;
+  }
 
   module _ (before after : SeatView (PoolView S)) (x state y : PoolView S) (turned : PoolTurned before after x state y) where
     -- the turn did this with the pool

@@ -1,20 +1,28 @@
 -- What one turn of a seat at the yard found, and left.
 use Rattle.std.proofs.Common.{◌≡◌, ◌↔◌, ℕ, ◌+◌, ◌≤◌, [], ◌∷◌, ◌++◌, Result, Ok, Err, IsErr, IfOk, IfErr, OnOk, OnErr, refl, sym, ap, ◌∙◌, subst}
 use Rattle.domains.specs.Drive.{Drive}
+use Rattle.domains.specs.Shape.{Shape}
 use Rattle.flex_io.specs.declared.raw_place.RawPlace.{RawPlace}
 use Rattle.held_slots.specs.declared.empty.Empty.{Empty}
 use Rattle.held_slots.specs.Slots.{drive_of}
 use Rattle.slot_yard.specs.Queues.{IsOldest, queue_of, with_slot}
+use Rattle.slot_yard.specs.Tallies.{numbers_of, tally_at}
 use Rattle.slot_yard.specs.Yards.{IsYard, YardView, moved}
 use Rattle.slot_yard.specs.declared.counts.Move.TheVariants.{Put, Take, Retire}
-use Rattle.turn_cell.specs.Seats.{SeatView, left}
+use Rattle.turn_cell.specs.Seats.{Enters, SeatView, left}
 use Rattle.fabric.specs.YardTurns.{FollowsYard, LooksOn, NoneWaits, Puts, Retires, TakesOldest, YardTurn}
-use Rattle.fabric.proofs.PoolTurnLemmas.{Remains}
+use Rattle.fabric.proofs.PoolTurnLemmas.{Remains, has_left}
 
 module _ {S : Type 0} where
   -- the yard once its turn has passed
   abbrev pub yard_passed : YardView S → YardView S
   yard_passed y = record y { turns = y.turns + 1 }
+
+  -- what a turn at the yard tells at its start
+  abbrev pub EntersYard : SeatView (YardView S) → SeatView (YardView S) → YardView S → YardView S → Type 0
+  EntersYard before within y state =
+      Enters {E = Unit {0}} {F = Shape} (λ (y : YardView S). y.turns) (λ (y : YardView S). []) (λ (y : YardView S) (k : ℕ). numbers_of (tally_at y.tallies k)) (λ (y : YardView S). y.shape)
+      (λ (y : YardView S) (number : ℕ). record y { seat = number }) before within y state
 
   -- what a turn leaves of its seat
   pub yard_remains : (how : YardView S → YardView S) (y : YardView S) (old new : SeatView (YardView S)) → YardTurn how y old new → Remains old new
@@ -47,6 +55,18 @@ module _ {S : Type 0} (place_of : S → RawPlace) where
     pub begins : state ≡ record x { seat = before.number }
     pub yard : IsYard place_of y
     pub leaves : after ≡ left before (x.turns + 1) (yard_passed y)
+
+  -- what the turn told at its start and at its end
+  pub yard_turned : (before within after : SeatView (YardView S)) (x begun state y : YardView S) → EntersYard before within x begun → state ≡ begun → IsYard place_of y
+      → after ≡ left within (x.turns + 1) (yard_passed y) → YardTurned before after x state y
+  yard_turned before within after x begun state y entered same yard leaves = record {
+    turns = entered.turns;
+    follows = entered.follows;
+    lone = entered.lone;
+    begins = same ∙ entered.begins;
+    yard = yard;
+    leaves = has_left before within after _ _ entered.seat leaves;
+  }
 
   module _ (before after : SeatView (YardView S)) (x state y : YardView S) (turned : YardTurned before after x state y) where
     -- the turn did this with the yard

@@ -1,5 +1,5 @@
 -- A new fabric, and its hands.
-use Rattle.std.specs.Prelude.{◌≡◌, ℕ, ◌*◌, ◌<◌, ◌≤◌, true, List, [], ◌∷◌, ◌++◌, length, replicate, reverse, Some, slice_get, vec_capacity}
+use Rattle.std.specs.Prelude.{◌≡◌, ℕ, suc, ◌+◌, ◌*◌, ◌<◌, ◌≤◌, true, List, [], ◌∷◌, ◌++◌, length, replicate, reverse, Some, slice_get, vec_capacity}
 use Rattle.board.specs.History.{History}
 use Rattle.domains.specs.Shape.{Shape, is_of}
 use Rattle.domains.specs.Drive.{Drive}
@@ -28,6 +28,11 @@ module _ {S : Type 0} where
   -- a pool of no turn with these slots of the drive, all free and the first on top
   abbrev pub new_pool : Drive → List S → PoolView S
   new_pool d slots = record { drive = d; slots = length slots; free = reverse slots; tallies = replicate 32 no_tally; turns = 0; seat = 0 }
+
+  -- how many slots are free in the pools
+  abbrev pub free_in : List (PoolView S) → ℕ
+  free_in [] = 0
+  free_in (p ∷ pools) = length p.free + free_in pools
 
   -- the hand has taken the seat, behind all others
   pub record DealsSeat (seat : Seat (PoolView S)) (old new : Hand S) : Type 0 where
@@ -76,3 +81,15 @@ module _ {S : Type 0} (place_of : S → RawPlace) where
     pub are : AreSlotsOf place_of d slots
     pub many : length slots ≡ shape.slots
     pub seats_are : AreNewSeats cell (new_pool d slots) seats
+
+  -- a new pool of all slots of the drive
+  pub record IsNewPool (shape : Shape) (d : Drive) (p : PoolView S) : Type 0 where
+    pub slots : List S
+    pub are : AreSlotsOf place_of d slots
+    pub many : length slots ≡ shape.slots
+    pub is : p ≡ new_pool d slots
+
+  -- new pools of the drives from this place on: node by node, and within a node drive by drive
+  abbrev pub AreNewPoolsFrom : Shape → ℕ → List (PoolView S) → Type 0
+  AreNewPoolsFrom shape place [] = Unit {0}
+  AreNewPoolsFrom shape place (p ∷ pools) = is_of shape p.drive ≡ true × (place_in shape p.drive ≡ place) × IsNewPool shape p.drive p × AreNewPoolsFrom shape (suc place) pools

@@ -1,20 +1,13 @@
-use Rattle.std.proofs.Common.{rules, ◌∙◌, OnOk, OnErr}
+use Rattle.std.proofs.Common.{rules, OnOk, OnErr}
 use Rattle.std.proofs.lemmas.Result.{IfErr-weaker, on_ok_weaker}
 use Rattle.fabric.specs.PoolTurns.{FindsAll, Gives}
-use Rattle.fabric.proofs.PoolTurnLemmas.{PoolTurned, finds_all, gives, has_left}
-use Rattle.turn_cell.specs.Seats.{seat_view, taken, turn_seat}
+use Rattle.fabric.proofs.PoolTurnLemmas.{PoolTurned, pool_turned, finds_all, gives}
+use Rattle.turn_cell.specs.Seats.{seat_view, taken}
 use Rattle.fabric.proofs.pool_turns.give.Given.{Over}
 use Rattle.fabric.proofs.pool_turns.give.Goals as goal
 
 turned : (g : Over) (c : goal.After-seat-1 g) → PoolTurned g.S.Slot.place_of (seat_view c.args.seat.now) (seat_view c.leave.new.self.1.0) (taken c.enter-turn.result) c.state.result.now c.give-given.new.self
-turned g c = record {
-  turns = c.enter-turn.ensures.entered.turns;
-  follows = c.enter-turn.ensures.entered.follows;
-  lone = c.enter-turn.ensures.entered.lone;
-  begins = c.state.ensures.value ∙ c.enter-turn.ensures.entered.begins;
-  pool = c.give-given.ensures.pool;
-  leaves = has_left (seat_view c.args.seat.now) (turn_seat c.enter-turn.result) _ _ _ c.enter-turn.ensures.entered.seat c.leave.ensures.left;
-}
+turned g c = pool_turned g.S.Slot.place_of _ _ _ _ _ _ _ c.enter-turn.ensures.entered c.state.ensures.value c.give-given.ensures.pool c.leave.ensures.left
 
 pub returns-clause-ok : goal.returns-clause-ok
 returns-clause-ok g c =
