@@ -4,7 +4,7 @@ ghost use Rattle.std.specs.Prelude.{◌≡◌, ◌≤◌, length, IfOk, true};
 ghost use Rattle.domains.specs.Shape.{is_of};
 ghost use Rattle.slot_pool.specs.Pools.{AreSlotsOf};
 
-use crate::Yard;
+use crate::{Yard, YardParts};
 use domains::{DriveId, Shape};
 use flex_io::{Fault, Rack, Slot, SurePiece, SureRack};
 use held_slots::Held;
@@ -110,10 +110,7 @@ pub fn place_of(held: Held<SurePiece>) -> (u8, u8, u16) {
 }
 
 /// The places of all slots, in their order. All slots are spent.
-pub fn places_of(
-    alloc: Global,
-    all: List<Held<SurePiece>>,
-) -> Result<Vec<(u8, u8, u16)>, AllocError> {
+fn places_of(alloc: Global, all: List<Held<SurePiece>>) -> Result<Vec<(u8, u8, u16)>, AllocError> {
     let mut all = all.into_vec();
     all.reverse();
     let mut places = Vec::new(alloc);
@@ -123,4 +120,15 @@ pub fn places_of(
     }
     all.destroy_empty();
     if refused { Err(AllocError) } else { Ok(places) }
+}
+
+/// The places of all slots that wait, and of those that are retired. The yard ends.
+pub fn places_left(
+    alloc: Global,
+    yard: Yard<SurePiece>,
+) -> Result<(Vec<(u8, u8, u16)>, Vec<(u8, u8, u16)>), AllocError> {
+    let YardParts { yard, retired } = yard.close();
+    let waiting = places_of(alloc, yard);
+    let retired = places_of(alloc, retired)?;
+    Ok((waiting?, retired))
 }
