@@ -16,19 +16,20 @@ use Rattle.fabric.specs.Accounts.{Holds}
 use Rattle.fabric.specs.Cells.{FabricView}
 use Rattle.fabric.specs.PoolTurns.{Takes}
 use Rattle.fabric.specs.declared.hand.Hand.{Hand}
-use Rattle.placement.specs.Draws.{AtSeat, FoundEmpty, drives_at, drives_of_all}
+use Rattle.slot_search.specs.HandSeats.{AtSeat, FoundEmpty, drives_at, drives_of_all}
 use Rattle.placement_order.specs.OrderLaws.{MayBeTried, MayGive}
 use Rattle.placement_order.specs.Order.{DrawRequest, order_of, units_on, visits_of}
 use Rattle.placement_order.specs.PassedDrives.{passed_of}
+use Rattle.placement_order.specs.Stages.{ComesTo, Stage}
 use Rattle.placement.specs.PlacedGroups.{AreWritten, HasFailed, Places, drives_in, spent_by}
-use Rattle.placement.specs.Searches.{IsBefore, KeepsSearch, request_of}
+use Rattle.slot_search.specs.Searches.{IsBefore, KeepsSearch, request_of}
 use Rattle.placement_order.specs.Room.{marked_up_to}
-use Rattle.placement.specs.PartialGroups.{HasNoRoom, HasPlaced, IsInOrder, IsNewGroup, slots_of}
+use Rattle.placement.specs.PartialGroups.{HasNoRoom, HasPlaced, IsAtStage, IsDrawnGroup, IsInOrder, IsNewGroup, slots_of}
 use Rattle.placement.specs.declared.partial_group.PartialGroup.{PartialGroup}
-use Rattle.placement.specs.declared.search.Search.{Search}
-use Rattle.placement.specs.declared.request.Request.{Request}
+use Rattle.slot_search.specs.declared.search.Search.{Search}
+use Rattle.slot_search.specs.declared.request.Request.{Request}
 use Rattle.placement_order.proofs.OrderMembers.{order-may_give, take-may_give}
-use Rattle.placement.proofs.SearchEnd.{drew, passed, prefix, take-short}
+use Rattle.slot_search.proofs.SearchEnd.{drew, passed, prefix, take-short}
 use Rattle.placement_order.proofs.OrderComplete.{order-complete}
 use Rattle.placement_order.proofs.PrefixDrives.{whole-prefixes}
 
@@ -40,15 +41,9 @@ none_tried s = record {
   apart = tt;
 }
 
--- a group of which all slots are drawn that there are
-pub record IsDrawnGroup {S : Type 0} (place_of : S → RawPlace) (content : S → Option (List ℕ)) (len_of faults : S → ℕ) (t : Request) (p : PartialGroup S) (start now : Hand S) : Type 0 where
-  pub in_order : IsInOrder place_of t p (slots_of p)
-  pub placed : (units : List (List ℕ)) → HasPlaced place_of content len_of faults t units p (slots_of p) start now
-  pub no_room : length p.waiting.items < t.count → HasNoRoom place_of t p
-
 module _ {S : Type 0} (place_of : S → RawPlace) (content : S → Option (List ℕ)) (len_of faults : S → ℕ) (f : FabricView) (t : Request) (p : PartialGroup S)
     (is_new : IsNewGroup place_of t p) (q : Search S) (start mid : Hand S) (barred : (d : Drive) → has t.barred d ≡ false)
-    (keeps : KeepsSearch place_of f t p.search q start mid) (order : IsBefore place_of t (visits_of (request_of t)) p.search → IsBefore place_of t [] q) where
+    (keeps : KeepsSearch place_of f t p.search q start mid) (order : (before : List Drive) → IsBefore place_of t before (visits_of (request_of t)) p.search → IsBefore place_of t before [] q) where
   abbrev found : Drive → Bool
   found = is_in (drives_at q.empty.items)
 
@@ -127,10 +122,7 @@ module _ {S : Type 0} (place_of : S → RawPlace) (content : S → Option (List 
           subst (λ xs. is_in (take t.count (order_of (request_of t) (spent_by xs new.search.empty.items))) e ≡ true) (sym none_failed)
           (subst (λ (x : _). is_in (take t.count (order_of (request_of t) (is_in (drives_at x.items)))) e ≡ true) (sym wait.empty)
           (ap (λ xs. is_in xs e) (prefix_is ∙ sym group) ∙ there));
-      order = λ none. group ∙ sym prefix_is ∙ ap (λ (x : _). take t.count (order_of (request_of t) (is_in (drives_at x.items)))) (sym wait.empty);
-      passed = λ none.
-          subst (λ (x : _). drives_at x.items ≡ passed_of (request_of t) (is_in (drives_at x.items)) t.count) (sym wait.empty)
-          (passed place_of f t p.search q start mid barred is_new.search keeps order);
+      apart = λ d there. absurd (both_ways false refl (ap (λ xs. is_in (drives_in xs) d) (sym none_failed) ∙ there));
       counted =
           let counted = keeps.search.counted in
           let none : length new.failed.items ≡ 0 = ap length none_failed in
@@ -147,6 +139,17 @@ module _ {S : Type 0} (place_of : S → RawPlace) (content : S → Option (List 
         failed = subst (λ (x : _). t.shape.nodes * t.shape.drives ≤ vec_capacity x) (sym wait.failed) is_new.room.failed;
       };
     }
+
+    -- the first stage is the draw
+    start-stage : IsAtStage place_of t new (slots_of new)
+    start-stage =
+        let drawn : ComesTo (request_of t) t.count (drives_of_all place_of q.slots.items) [] (drives_at q.empty.items)
+        = ap (λ slots. let made : Stage = record { slots = slots; failed = []; found = passed_of (request_of t) found t.count } in made) prefix_is
+        ∙ ap (λ ds. let made : Stage = record { slots = drives_of_all place_of q.slots.items; failed = []; found = ds } in made)
+        (sym (passed place_of f t p.search q start mid barred is_new.search keeps order)) in
+        subst (λ ds. ComesTo (request_of t) t.count ds (drives_in new.failed.items) (drives_at new.search.empty.items)) (sym group)
+        (subst (λ xs. ComesTo (request_of t) t.count (drives_of_all place_of q.slots.items) (drives_in xs) (drives_at new.search.empty.items)) (sym none_failed)
+        (subst (λ (x : _). ComesTo (request_of t) t.count (drives_of_all place_of q.slots.items) [] (drives_at x.items)) (sym wait.empty) drawn))
 
     start-placed : (units : List (List ℕ)) → HasPlaced place_of content len_of faults t units new (slots_of new) start mid
     start-placed units =
@@ -172,6 +175,7 @@ module _ {S : Type 0} (place_of : S → RawPlace) (content : S → Option (List 
         let one = ap length slots_are in
         take-short t.count (order_of (request_of t) found) (drives_of_all place_of q.slots.items) prefix_is (omega (arith, few, long, one)) in
         record {
+          stage = start-stage;
           short = few;
           none = λ d of left.
               subst (λ xs. (is_in xs d ≡ true) ⊎ (t.level.k ≤ units_on (request_of t) xs d.node)) (all ∙ sym group)
@@ -183,16 +187,19 @@ module _ {S : Type 0} (place_of : S → RawPlace) (content : S → Option (List 
       → vec_capacity to ≡ vec_capacity p.waiting → IsDrawnGroup place_of content len_of faults t (moved from to) start mid
   is-drawn from to none slots waiting capacity =
       let wait = all-wait from to none slots waiting capacity in
-      record { in_order = start-in_order (moved from to) wait; placed = start-placed (moved from to) wait; no_room = start-no_room (moved from to) wait }
+      record { in_order = start-in_order (moved from to) wait; stage = start-stage (moved from to) wait; placed = start-placed (moved from to) wait; no_room = start-no_room (moved from to) wait }
 
 -- all units are written
 pub all-placed : {S : Type 0} (place_of : S → RawPlace) (content : S → Option (List ℕ)) (len_of faults : S → ℕ) (t : Request) (units : List (List ℕ)) (p : PartialGroup S) (start now : Hand S)
-    → length units ≡ t.count → IsInOrder place_of t p (slots_of p) → length (slots_of p) ≡ t.count → p.waiting.items ≡ []
+    → length units ≡ t.count → IsInOrder place_of t p (slots_of p) → IsAtStage place_of t p (slots_of p) → length (slots_of p) ≡ t.count → p.waiting.items ≡ []
     → HasPlaced place_of content len_of faults t units p (slots_of p) start now → Places place_of content len_of faults (request_of t) units p.written.items start now
-all-placed place_of content len_of faults t units p start now many old full none placed =
+all-placed place_of content len_of faults t units p start now many old stage full none placed =
     let slots : slots_of p ≡ p.written.items = ap (λ xs. p.written.items ++ reverse xs) none ∙ append-nil p.written.items in
     let spent : Drive → Bool = spent_by p.failed.items p.search.empty.items in
     let may : MayGive (request_of t) spent (drives_of_all place_of p.written.items) = subst (λ xs. MayGive (request_of t) spent (drives_of_all place_of xs)) slots old.may in
+    let stages : ComesTo (request_of t) (length units) (drives_of_all place_of p.written.items) (drives_in p.failed.items) (drives_at p.search.empty.items)
+    = subst (λ n. ComesTo (request_of t) n (drives_of_all place_of p.written.items) (drives_in p.failed.items) (drives_at p.search.empty.items)) (sym many)
+    (subst (λ xs. ComesTo (request_of t) t.count (drives_of_all place_of xs) (drives_in p.failed.items) (drives_at p.search.empty.items)) slots stage) in
     let count : length (drives_of_all place_of p.written.items) ≡ t.count = length-map p.written.items (drive_of place_of) ∙ ap length (sym slots) ∙ full in
     record {
       found = p.search.empty.items;
@@ -205,8 +212,9 @@ all-placed place_of content len_of faults t units p start now many old full none
           (λ e there. subst (λ n. is_in (take n (order_of (request_of t) spent)) e ≡ true) (sym count) (old.first e (ap (λ xs. is_in (drives_of_all place_of xs) e) slots ∙ there))) d
           ∙ ap (λ n. is_in (take n (order_of (request_of t) spent)) d) (count ∙ sym many);
       order = λ none_failed.
-          ap (drives_of_all place_of) (sym slots) ∙ old.order none_failed ∙ ap (λ n. take n (order_of (request_of t) (is_in (drives_at p.search.empty.items)))) (sym many);
-      passed = λ none_failed. old.passed none_failed ∙ ap (passed_of (request_of t) (is_in (drives_at p.search.empty.items))) (sym many);
+          ap (λ (x : Stage). x.slots)
+          (sym (subst (λ xs. ComesTo (request_of t) (length units) (drives_of_all place_of p.written.items) (drives_in xs) (drives_at p.search.empty.items)) none_failed stages));
+      stages = stages;
       tried = record {
         empty = placed.empty;
         empty_tried = old.empty_tried;

@@ -1,5 +1,5 @@
 -- A group that is not placed leaves the hand with what it held.
-use Rattle.std.proofs.Common.{◌≡◌, ℕ, ◌+◌, ◌<◌, true, false, List, [], ◌++◌, length, reverse, refl, sym, ap, subst, ◌∙◌, arith}
+use Rattle.std.proofs.Common.{◌≡◌, ℕ, ◌+◌, true, false, List, [], ◌++◌, length, reverse, refl, sym, ap, subst, ◌∙◌, arith}
 use Rattle.std.specs.Prelude.{Option}
 use Rattle.std.specs.List.{All}
 use Rattle.std.proofs.lemmas.Bool.{both_ways, false_from_ne_true, or_left, or_right}
@@ -18,19 +18,20 @@ use Rattle.fabric.specs.PoolTurns.{Gives}
 use Rattle.fabric.specs.Views.{seat_on}
 use Rattle.fabric.specs.declared.hand.Hand.{Hand}
 use Rattle.placement_order.specs.OrderLaws.{MayBeTried, MayGive, NoneIsLeft}
-use Rattle.placement_order.specs.PassedDrives.{passed_of}
+use Rattle.placement_order.specs.Stages.{ComesTo}
 use Rattle.placement_order.specs.Room.{room_left}
 use Rattle.placement_order.proofs.GroupChanges.{is_left-parts}
 use Rattle.placement_order.proofs.RoomFilled.{full-fills}
-use Rattle.placement.specs.Draws.{AtSeat, FoundEmpty, IfNoMemory, IfNoRoom, LosesSlots, WentBack, drives_at, drives_of_all}
+use Rattle.slot_search.specs.HandSeats.{AtSeat, FoundEmpty, WentBack, drives_at, drives_of_all}
+use Rattle.placement.specs.Draws.{IfNoMemory, IfNoRoom, LosesSlots}
 use Rattle.placement.specs.PartialGroups.{HasLost, HasPlaced, IsInOrder, TellsNoRoom, slots_of}
 use Rattle.placement.specs.PlacedGroups.{FailedAndRetired, drives_in, spent_by}
-use Rattle.placement.specs.Searches.{GivesAllBack, GivesBack, request_of}
+use Rattle.slot_search.specs.Searches.{GivesAllBack, GivesBack, request_of}
 use Rattle.placement.specs.declared.partial_group.PartialGroup.{PartialGroup}
 use Rattle.placement.specs.declared.refusal.NoRoom.{NoRoom}
 use Rattle.placement.specs.declared.refusal.PlaceRefusal.{PlaceRefusal}
 use Rattle.placement.specs.declared.refusal.PlaceRefusal.TheVariants.{NoRoom as NoRoomOf, NoMemory}
-use Rattle.placement.specs.declared.request.Request.{Request}
+use Rattle.slot_search.specs.declared.request.Request.{Request}
 use Rattle.placement.proofs.OtherSeats.{empty-rests, failures-stay, takes-gives}
 use Rattle.placement.proofs.SlotLists.{All-left, All-right}
 
@@ -79,9 +80,10 @@ module _ {S : Type 0} (place_of : S → RawPlace) (content : S → Option (List 
             (subst (λ xs. MayGive (request_of t) (spent_by p.failed.items xs) group) (sym empty) old.may);
         all = subst (λ xs. NoneIsLeft (request_of t) (spent_by xs told.empty) group) (sym failed)
             (subst (λ xs. NoneIsLeft (request_of t) (spent_by p.failed.items xs) group) (sym empty) no_room.none);
-        passed = λ none.
-            subst (λ xs. drives_at xs ≡ passed_of (request_of t) (is_in (drives_at xs)) (length units)) (sym empty)
-            (old.passed (sym failed ∙ none) ∙ ap (passed_of (request_of t) (is_in (drives_at p.search.empty.items))) (sym many));
+        stages =
+            subst (λ n. ComesTo (request_of t) n group (drives_in told.failed) (drives_at told.empty)) (sym many)
+            (subst (λ xs. ComesTo (request_of t) t.count group (drives_in xs) (drives_at told.empty)) (sym failed)
+            (subst (λ xs. ComesTo (request_of t) t.count group (drives_in p.failed.items) (drives_at xs)) (sym empty) no_room.stage));
         went_back = all_went units start placed;
         tried = record {
           empty = subst (λ xs. FoundEmpty place_of t.shape xs start after) (sym empty)

@@ -1,15 +1,10 @@
 mod SlotLists
-mod TriedDrives
-mod SeatTurns
 mod OtherSeats
-mod SearchSets
-mod FirstOpenDrive
-mod SearchSteps
-mod SearchEnd
-mod ReleasedSlots
+mod DrawEnd
 mod SlotFailed
 mod SlotRetired
 mod ReplacementOrder
+mod StageReached
 mod ReplacementDrawn
 mod NextUnit
 mod GroupDrawn

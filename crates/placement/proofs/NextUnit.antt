@@ -15,14 +15,15 @@ use Rattle.domains.specs.Place.{IsPlaceOf}
 use Rattle.fabric.specs.Accounts.{Holds}
 use Rattle.fabric.specs.PoolTurns.{Takes}
 use Rattle.fabric.specs.declared.hand.Hand.{Hand}
-use Rattle.placement.specs.Draws.{AtSeat, drives_of_all}
+use Rattle.slot_search.specs.HandSeats.{AtSeat, drives_at, drives_of_all}
+use Rattle.placement_order.specs.Stages.{ComesTo}
 use Rattle.placement_order.specs.Order.{units_on}
 use Rattle.placement_order.specs.OrderLaws.{MayGive}
-use Rattle.placement.specs.PlacedGroups.{AreWritten, IsWritten, spent_by}
-use Rattle.placement.specs.Searches.{request_of}
-use Rattle.placement.specs.PartialGroups.{HasPlaced, IsInOrder, slots_of, slots_with}
+use Rattle.placement.specs.PlacedGroups.{AreWritten, IsWritten, drives_in, spent_by}
+use Rattle.slot_search.specs.Searches.{request_of}
+use Rattle.placement.specs.PartialGroups.{HasPlaced, IsAtStage, IsInOrder, slots_of, slots_with}
 use Rattle.placement.specs.declared.partial_group.PartialGroup.{PartialGroup}
-use Rattle.placement.specs.declared.request.Request.{Request}
+use Rattle.slot_search.specs.declared.request.Request.{Request}
 use Rattle.placement.proofs.SlotLists.{All-midst, All-with, All-without}
 use Rattle.domains.specs.Counts.{one_if}
 use Rattle.placement.proofs.SlotRetired.{count_on-between}
@@ -57,12 +58,16 @@ module _ {S : Type 0} (place_of : S → RawPlace) where
     empty_tried = old.empty_tried;
     failed_tried = old.failed_tried;
     first = λ e there. old.first e (ap (λ xs. is_in xs e) (sym same) ∙ there);
-    order = λ none. same ∙ old.order none;
-    passed = old.passed;
+    apart = old.apart;
     counted = old.counted;
     few = subst (λ n. n ≤ t.count) (sym long) old.few;
     room = record { slots = old.room.slots; waiting = waiting; written = written; empty = old.room.empty; failed = old.room.failed };
   }
+
+  -- and the same stage
+  stage-as : (t : Request) (p : PartialGroup S) (slots now : List S) → drives_of_all place_of now ≡ drives_of_all place_of slots
+      → IsAtStage place_of t p slots → IsAtStage place_of t p now
+  stage-as t p slots now same stage = subst (λ ds. ComesTo (request_of t) t.count ds (drives_in p.failed.items) (drives_at p.search.empty.items)) (sym same) stage
 
   places-as : (t : Request) (xs ys : List S) (a b : S) → place_of a ≡ place_of b → All (λ held. IsPlaceOf t.shape (place_from (place_of held))) (xs ++ b ∷ ys)
       → All (λ held. IsPlaceOf t.shape (place_from (place_of held))) (xs ++ a ∷ ys)
@@ -79,7 +84,15 @@ module _ {S : Type 0} (place_of : S → RawPlace) where
         IsInOrder-as t p p (slots_with p held) (slots_with p slot) (drives-as p.written.items (reverse p.waiting.items) slot held same) (omega (arith, one, two))
         (places-as t p.written.items (reverse p.waiting.items) slot held same old.places) old.room.waiting old.room.written old
 
+    pub changed-stage : IsAtStage place_of t p (slots_with p held) → IsAtStage place_of t p (slots_with p slot)
+    changed-stage = stage-as t p (slots_with p held) (slots_with p slot) (drives-as p.written.items (reverse p.waiting.items) slot held same)
+
     -- the slot is the last that is written
+    pub written-stage : q.written.items ≡ p.written.items ++ slot ∷ [] → IsAtStage place_of t p (slots_with p held) → IsAtStage place_of t p (q.written.items ++ reverse p.waiting.items)
+    written-stage is stage =
+        stage-as t p (slots_with p slot) (q.written.items ++ reverse p.waiting.items)
+        (ap (drives_of_all place_of) (ap (λ xs. xs ++ reverse p.waiting.items) is ∙ append_assoc p.written.items (slot ∷ []) (reverse p.waiting.items))) (changed-stage stage)
+
     pub written-in_order : q.written.items ≡ p.written.items ++ slot ∷ [] → vec_capacity q.written ≡ vec_capacity p.written
         → IsInOrder place_of t (record q { search = p.search; waiting = p.waiting; failed = p.failed }) (q.written.items ++ reverse p.waiting.items)
     written-in_order is capacity =
@@ -105,6 +118,9 @@ module _ {S : Type 0} (place_of : S → RawPlace) where
 
     pub popped : slots_of p ≡ p.written.items ++ held ∷ reverse q.waiting.items
     popped = ap (λ xs. p.written.items ++ xs) turned
+
+    pub popped-stage : IsAtStage place_of t p (slots_of p) → IsAtStage place_of t p (p.written.items ++ held ∷ reverse q.waiting.items)
+    popped-stage = stage-as t p (slots_of p) (p.written.items ++ held ∷ reverse q.waiting.items) (ap (drives_of_all place_of) (sym popped))
 
     pub popped-in_order : vec_capacity q.waiting ≡ vec_capacity p.waiting → IsInOrder place_of t p (slots_of p)
         → IsInOrder place_of t (record q { search = p.search; written = p.written; failed = p.failed }) (p.written.items ++ held ∷ reverse q.waiting.items)
@@ -173,10 +189,10 @@ module _ {S : Type 0} (place_of : S → RawPlace) (content : S → Option (List 
     all_wait : All AtIt (held ∷ reverse q.waiting.items)
     all_wait = subst (All AtIt) (ap reverse is ∙ reverse-append q.waiting.items (held ∷ [])) placed.waiting
 
-    pub popped-at : AtIt held
+    popped-at : AtIt held
     popped-at = All-head AtIt held (reverse q.waiting.items) all_wait
 
-    pub popped-placed : HasPlaced place_of content len_of faults t units (record q { search = p.search; written = p.written; failed = p.failed }) (p.written.items ++ held ∷ reverse q.waiting.items) start now
+    popped-placed : HasPlaced place_of content len_of faults t units (record q { search = p.search; written = p.written; failed = p.failed }) (p.written.items ++ held ∷ reverse q.waiting.items) start now
     popped-placed =
         let slots = popped place_of t p q held is in
         record {
@@ -187,6 +203,11 @@ module _ {S : Type 0} (place_of : S → RawPlace) (content : S → Option (List 
           others = λ e of out. placed.others e of (ap (λ xs. is_in (drives_of_all place_of xs) e) slots ∙ out);
           account = λ e many of holds. subst (λ xs. Holds t.shape e (many + count_on place_of e xs) now) slots (placed.account e many of holds);
         }
+
+    -- what its write asks for
+    pub popped-both : AtIt held
+        × HasPlaced place_of content len_of faults t units (record q { search = p.search; written = p.written; failed = p.failed }) (p.written.items ++ held ∷ reverse q.waiting.items) start now
+    popped-both = (popped-at, popped-placed)
 
   -- no slot was taken out
   pub stayed-placed : (p q : PartialGroup S) → q.waiting.items ≡ p.waiting.items → HasPlaced place_of content len_of faults t units p (slots_of p) start now

@@ -13,11 +13,11 @@ use Rattle.slot_yard.specs.Yards.{YardView}
 use Rattle.turn_cell.specs.Seats.{SeatView, seat_view}
 use Rattle.fabric.specs.Views.{seat_on}
 use Rattle.fabric.specs.declared.hand.Hand.{Hand}
-use Rattle.placement.specs.Draws.{AtSeat, FoundEmpty, WentBack, drives_at, drives_of_all}
+use Rattle.slot_search.specs.HandSeats.{AtSeat, FoundEmpty, WentBack, drives_at, drives_of_all}
 use Rattle.placement.specs.PlacedGroups.{AreWritten, FailedAndRetired, HasFailed, IsWritten, RetiresEach, drives_in}
-use Rattle.placement.specs.declared.refusal.EmptyAt.{EmptyAt}
+use Rattle.slot_search.specs.declared.empty_at.EmptyAt.{EmptyAt}
 use Rattle.domains.proofs.DriveLemmas.{is_in-at}
-use Rattle.placement.proofs.TriedDrives.{seat-stays}
+use Rattle.slot_search.proofs.TriedDrives.{seat-stays}
 
 abbrev seen_or : {A : Type 0} → Option A → A → A
 seen_or None other = other

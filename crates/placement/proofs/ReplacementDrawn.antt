@@ -15,25 +15,25 @@ use Rattle.fabric.specs.Accounts.{Holds}
 use Rattle.fabric.specs.Cells.{FabricView}
 use Rattle.fabric.specs.PoolTurns.{Takes}
 use Rattle.fabric.specs.declared.hand.Hand.{Hand}
-use Rattle.placement.specs.Draws.{AtSeat, FoundEmpty, drives_at, drives_of_all}
+use Rattle.slot_search.specs.HandSeats.{AtSeat, FoundEmpty, drives_at, drives_of_all}
 use Rattle.placement_order.specs.Order.{visits_of}
 use Rattle.placement.specs.PlacedGroups.{AreWritten, FailedAndRetired, drives_in, spent_by}
-use Rattle.placement.specs.Searches.{HasTried, IsBefore, KeepsSearch, is_closed, request_of}
+use Rattle.slot_search.specs.Searches.{HasTried, IsBefore, KeepsSearch, is_closed, request_of}
 use Rattle.placement.specs.PartialGroups.{HasPlaced, IsInOrder, slots_of}
 use Rattle.placement.specs.declared.partial_group.PartialGroup.{PartialGroup}
-use Rattle.placement.specs.declared.search.Search.{Search}
-use Rattle.placement.specs.declared.request.Request.{Request}
+use Rattle.slot_search.specs.declared.search.Search.{Search}
+use Rattle.slot_search.specs.declared.request.Request.{Request}
 use Rattle.placement.proofs.SlotLists.{All-right}
 use Rattle.placement_order.proofs.ApartDrives.{is_in-midst}
 use Rattle.domains.proofs.DriveLemmas.{is_in-append}
 use Rattle.placement.proofs.SlotRetired.{count_on-between}
-use Rattle.placement.proofs.ReplacementOrder.{IsAfter, one_more}
+use Rattle.placement.proofs.ReplacementOrder.{IsAfter, given-slots, none-slots, one_more}
 use Rattle.placement.proofs.OtherSeats.{all-written-stay, failures-stay, waiting-stays}
-use Rattle.placement.proofs.TriedDrives.{count_on-one}
+use Rattle.slot_search.proofs.TriedDrives.{count_on-one}
 
 module _ {S : Type 0} (place_of : S → RawPlace) (content : S → Option (List ℕ)) (len_of faults : S → ℕ) (f : FabricView) (t : Request) (p : PartialGroup S)
     (old : IsInOrder place_of t p (slots_of p)) (q : Search S) (hand mid : Hand S) (keeps : KeepsSearch place_of f (one_more t p) p.search q hand mid)
-    (order : IsBefore place_of (one_more t p) (visits_of (request_of (one_more t p))) p.search → IsBefore place_of (one_more t p) [] q)
+    (order : (before : List Drive) → IsBefore place_of (one_more t p) before (visits_of (request_of (one_more t p))) p.search → IsBefore place_of (one_more t p) before [] q)
     (units : List (List ℕ)) (start : Hand S) (placed : HasPlaced place_of content len_of faults t units p (slots_of p) start hand) where
   abbrev drives : List Drive
   drives = drives_of_all place_of (slots_of p)
@@ -107,7 +107,7 @@ module _ {S : Type 0} (place_of : S → RawPlace) (content : S → Option (List 
   pub none-placed : (new : PartialGroup S) → IsAfter place_of f t p old q hand mid keeps order new → q.slots.items ≡ [] → new.waiting ≡ p.waiting
       → HasPlaced place_of content len_of faults t units new (slots_of new) start mid
   none-placed new after none waiting =
-      let same : slots_of new ≡ slots_of p = ap (λ (x : _). x.items ++ reverse new.waiting.items) after.written ∙ ap (λ (x : _). p.written.items ++ reverse x.items) waiting in
+      let same = none-slots place_of f t p old q hand mid keeps order none new after waiting in
       come new after (record {
         out = λ e out. (ap (λ xs. is_in (drives_of_all place_of xs) e) (sym same) ∙ out, ap (λ xs. is_in (drives_of_all place_of xs) e) none);
         count = λ e.
@@ -122,8 +122,7 @@ module _ {S : Type 0} (place_of : S → RawPlace) (content : S → Option (List 
       → HasPlaced place_of content len_of faults t units new (slots_of new) start mid
   given-placed new x after given waiting =
       let turned : reverse new.waiting.items ≡ x ∷ reverse p.waiting.items = ap reverse waiting ∙ reverse-append p.waiting.items (x ∷ []) in
-      let slots : slots_of new ≡ p.written.items ++ x ∷ reverse p.waiting.items =
-      ap (λ (v : _). v.items ++ reverse new.waiting.items) after.written ∙ ap (λ xs. p.written.items ++ xs) turned in
+      let slots = given-slots place_of f t p old q hand mid keeps order x given new after waiting in
       come new after (record {
         out = λ e out.
             let parts = or_parts _ (same_drive (drive_of place_of x) e)

@@ -1,8 +1,8 @@
 -- A slot comes in place of one that failed.
-use Rattle.std.proofs.Common.{◌≡◌, ℕ, ◌+◌, ◌*◌, ◌<◌, ◌≤◌, inl, inr, Bool, true, false, cond, ◌||◌, List, [], ◌∷◌, ◌++◌, length, take, reverse, count_by, eqb, refl, sym, ap, subst, ◌∙◌, arith}
+use Rattle.std.proofs.Common.{◌≡◌, ℕ, ◌+◌, ◌*◌, ◌<◌, ◌≤◌, ◌⊎◌, inl, inr, Bool, true, false, cond, not, ◌||◌, List, [], ◌∷◌, ◌++◌, length, take, reverse, count_by, eqb, refl, sym, ap, subst, ◌∙◌, arith}
 use Rattle.std.specs.Prelude.{vec_capacity}
 use Rattle.std.specs.List.{All}
-use Rattle.std.proofs.lemmas.Bool.{both_ways, cases_Bool, eq-eqb, false_from_ne_true, or_from, or_left, or_parts, or_cases, or_right}
+use Rattle.std.proofs.lemmas.Bool.{and_parts, both_ways, cases_Bool, eq-eqb, false_from_ne_true, not-true, or_from, or_left, or_parts, or_cases, or_right}
 use Rattle.std.proofs.lemmas.List.Elements.{All-head}
 use Rattle.std.proofs.lemmas.List.{length-append, length-map, map-append, reverse-append, take_all}
 use Rattle.domains.specs.Shape.{is_of}
@@ -16,18 +16,18 @@ use Rattle.domains.proofs.ShapeLemmas.{is_of-within}
 use Rattle.fabric.specs.Cells.{FabricView}
 use Rattle.fabric.specs.declared.hand.Hand.{Hand}
 use Rattle.placement_order.specs.OrderLaws.{MayBeTried, NoneIsLeft, MayGive}
-use Rattle.placement.specs.Draws.{drives_at, drives_of_all}
+use Rattle.slot_search.specs.HandSeats.{drives_at, drives_of_all}
 use Rattle.placement_order.specs.Order.{DrawRequest, drawn_in, order_of, units_on, visits_of}
 use Rattle.placement_order.specs.PassedDrives.{passed_in}
 use Rattle.placement.specs.PlacedGroups.{drives_in, spent_by}
-use Rattle.placement.specs.Searches.{BarsNone, IsBefore, KeepsSearch, MayBeSpent, request_of}
+use Rattle.slot_search.specs.Searches.{IsBefore, KeepsSearch, MayBeSpent, request_of, without_barred}
 use Rattle.placement_order.specs.Room.{marked_up_to}
 use Rattle.placement.specs.PartialGroups.{IsInOrder, slots_of}
 use Rattle.placement.specs.declared.partial_group.PartialGroup.{PartialGroup}
-use Rattle.placement.specs.declared.search.Search.{Search}
-use Rattle.placement.specs.declared.request.Request.{Request}
+use Rattle.slot_search.specs.declared.search.Search.{Search}
+use Rattle.slot_search.specs.declared.request.Request.{Request}
 use Rattle.placement_order.proofs.OrderMembers.{order-may_give, take-may_give}
-use Rattle.placement.proofs.SearchEnd.{is_of-drawn, take-short}
+use Rattle.slot_search.proofs.SearchEnd.{is_of-drawn, order-unbarred, take-short}
 use Rattle.placement.proofs.SlotLists.{All-with}
 use Rattle.placement_order.proofs.GroupChanges.{MayGive-again, MayGive-more, count_by-midst, is_left-from, is_left-parts}
 use Rattle.placement_order.proofs.ApartDrives.{is_in-midst}
@@ -35,6 +35,7 @@ use Rattle.domains.proofs.CountLemmas.{count_by-cons}
 use Rattle.domains.proofs.DriveLemmas.{is_in-append, is_in-first, same_drive-eq}
 use Rattle.domains.specs.Counts.{one_if}
 use Rattle.placement_order.proofs.OrderComplete.{order-complete}
+use Rattle.placement_order.proofs.PassedVisits.{passed_in-each}
 use Rattle.placement_order.proofs.PrefixDrives.{prefixes-keep, replacements-of}
 
 absorbed : (a b c : Bool) → (b ≡ true → c ≡ true) → ((a || b) || c) ≡ (a || c)
@@ -52,25 +53,30 @@ or_grouped false true c = refl
 or_grouped false false true = refl
 or_grouped false false false = refl
 
--- a list that no drive is in is empty
-nil_from_none : (xs : List Drive) → ((d : Drive) → is_in xs d ≡ true → ⊥) → xs ≡ []
-nil_from_none [] none = refl
-nil_from_none (x ∷ xs) none = absurd (none x (is_in-first x xs))
-
 -- the request of a draw in place of a slot that failed
 abbrev pub one_more : {S : Type 0} → Request → PartialGroup S → Request
 one_more t p = record t { used = p.search.taken; barred = p.search.spent; count = 1 }
 
 module _ {S : Type 0} (place_of : S → RawPlace) (f : FabricView) (t : Request) (p : PartialGroup S) (old : IsInOrder place_of t p (slots_of p))
     (q : Search S) (hand mid : Hand S) (keeps : KeepsSearch place_of f (one_more t p) p.search q hand mid)
-    (order : IsBefore place_of (one_more t p) (visits_of (request_of (one_more t p))) p.search → IsBefore place_of (one_more t p) [] q) where
+    (order : (before : List Drive) → IsBefore place_of (one_more t p) before (visits_of (request_of (one_more t p))) p.search → IsBefore place_of (one_more t p) before [] q) where
   abbrev pub drives : List Drive
   drives = drives_of_all place_of (slots_of p)
+
+  -- those of the slots that are written, and of those that wait
+  abbrev pub ahead : List Drive
+  ahead = drives_of_all place_of p.written.items
+
+  abbrev pub behind : List Drive
+  behind = drives_of_all place_of (reverse p.waiting.items)
+
+  pub drives_are : drives ≡ ahead ++ behind
+  drives_are = map-append (drive_of place_of) p.written.items (reverse p.waiting.items)
 
   abbrev pub spent : Drive → Bool
   spent = spent_by p.failed.items q.empty.items
 
-  still_found : (e : Drive) → is_in (drives_at p.search.empty.items) e ≡ true → is_in (drives_at q.empty.items) e ≡ true
+  pub still_found : (e : Drive) → is_in (drives_at p.search.empty.items) e ≡ true → is_in (drives_at q.empty.items) e ≡ true
   still_found e there =
       ap (λ xs. is_in (drives_at xs) e) keeps.found.1
       ∙ ap (λ xs. is_in xs e) (map-append (λ (x : _). x.drive) p.search.empty.items keeps.found.0)
@@ -88,33 +94,52 @@ module _ {S : Type 0} (place_of : S → RawPlace) (f : FabricView) (t : Request)
     drawn = λ e there. let of = is_of-drawn place_of t.shape q.slots.items e keeps.search.places there in sym (spent_is e of) ∙ keeps.search.apart e of there;
   }
 
-  -- if no drive is barred, none was found empty
-  none_found : BarsNone (one_more t p) → drives_at p.search.empty.items ≡ []
-  none_found none =
-      nil_from_none (drives_at p.search.empty.items)
-      (λ e there. both_ways (has p.search.spent e) (none e) (old.spent e (old.empty_tried.of_shape e there) ∙ or_right (is_in (drives_in p.failed.items) e) _ there))
+  still_spent : (e : Drive) → spent_by p.failed.items p.search.empty.items e ≡ true → spent e ≡ true
+  still_spent e was = elim (or_cases (is_in (drives_in p.failed.items) e) (is_in (drives_at p.search.empty.items) e) was) [
+    | inl failed ↦ or_left _ (is_in (drives_at q.empty.items) e) failed
+    | inr found ↦ or_right (is_in (drives_in p.failed.items) e) _ (still_found e found)
+  ]
 
-  begun : IsBefore place_of (one_more t p) (visits_of (request_of (one_more t p))) p.search
+  begun : IsBefore place_of (one_more t p) (drives_at p.search.empty.items) (visits_of (request_of (one_more t p))) p.search
   begun other may =
-      let s : DrawRequest = request_of (one_more t p) in (
+      let s : DrawRequest = without_barred (one_more t p) in (
         ap (λ xs. take 1 (drawn_in (visits_of s) s other (drives_of_all place_of xs))) (sym old.none),
-        λ none.
-            ap (λ xs. passed_in (visits_of s) s other 1 (drives_of_all place_of xs) []) (sym old.none)
-            ∙ ap (passed_in (visits_of s) s other 1 (drives_of_all place_of p.search.slots.items)) (sym (none_found none)),
+        ap (λ xs. passed_in (visits_of s) s other 1 (drives_of_all place_of xs) (drives_at p.search.empty.items)) (sym old.none),
       )
 
-  pub first : take 1 (order_of (request_of (one_more t p)) spent) ≡ drives_of_all place_of q.slots.items
-  first =
+  -- the search drew the first drive of the order
+  pub first_drawn : take 1 (order_of (without_barred (one_more t p)) spent) ≡ drives_of_all place_of q.slots.items
+  first_drawn =
       let few = keeps.search.few in
       let long = length-map q.slots.items (drive_of place_of) in
-      (order begun spent may_be).0
+      (order (drives_at p.search.empty.items) begun spent may_be).0
       ∙ take_all 1 (drives_of_all place_of q.slots.items) (omega (arith, few, long))
+
+  -- and found empty those that it passed over
+  pub found_passed : passed_in (visits_of (without_barred (one_more t p))) (without_barred (one_more t p)) spent 1 [] (drives_at p.search.empty.items) ≡ drives_at q.empty.items
+  found_passed = (order (drives_at p.search.empty.items) begun spent may_be).1
+
+  first : take 1 (order_of (request_of (one_more t p)) spent) ≡ drives_of_all place_of q.slots.items
+  first = sym (order-unbarred (one_more t p) spent (λ e of gone. still_spent e (sym (old.spent e of) ∙ gone)) 1) ∙ first_drawn
+
+  -- no drive whose slot failed is found empty
+  pub failed_apart : (e : Drive) → is_in (drives_in p.failed.items) e ≡ true → is_in (drives_at q.empty.items) e ≡ false
+  failed_apart e failed =
+      let searched : DrawRequest = without_barred (one_more t p) in
+      let barred : has p.search.spent e ≡ true = old.spent e (old.failed_tried.of_shape e failed) ∙ or_left (is_in (drives_in p.failed.items) e) _ failed in
+      false_from_ne_true _ (λ found.
+      elim (passed_in-each searched spent (λ d. (is_in (drives_at p.search.empty.items) d ≡ true) ⊎ (searched.usable d ≡ true))
+      (λ d free. inr (and_parts (searched.usable d) (not (has p.search.taken d)) free).0) (visits_of searched) 1 [] (drives_at p.search.empty.items) (λ d there. inl there) e
+      (ap (λ xs. is_in xs e) found_passed ∙ found)) [
+        | inl before ↦ both_ways _ (old.apart e failed) before
+        | inr usable ↦ both_ways _ (not-true (has p.search.spent e) (and_parts ((request_of t).usable e) (not (has p.search.spent e)) usable).1) barred
+      ])
 
   -- a drive that is not taken is neither used nor one of the group
   apart : (e : Drive) → is_of t.shape e ≡ true → has p.search.taken e ≡ false → (has t.used e ≡ false) × (is_in drives e ≡ false)
   apart e of untaken = or_parts (has t.used e) (is_in drives e) (sym (old.taken e of) ∙ untaken)
 
-  unspent : (e : Drive) → is_in drives e ≡ true → spent e ≡ false
+  pub unspent : (e : Drive) → is_in drives e ≡ true → spent e ≡ false
   unspent e there =
       let of = old.may.of_shape e there in
       let was = (is_left-parts (request_of t) (spent_by p.failed.items p.search.empty.items) e (old.may.left e there)).2 in
@@ -123,12 +148,6 @@ module _ {S : Type 0} (place_of : S → RawPlace) (f : FabricView) (t : Request)
 
   pub may_still : MayGive (request_of t) spent drives
   may_still = MayGive-again (request_of t) (spent_by p.failed.items p.search.empty.items) spent drives unspent old.may
-
-  still_spent : (e : Drive) → spent_by p.failed.items p.search.empty.items e ≡ true → spent e ≡ true
-  still_spent e was = elim (or_cases (is_in (drives_in p.failed.items) e) (is_in (drives_at p.search.empty.items) e) was) [
-    | inl failed ↦ or_left _ (is_in (drives_at q.empty.items) e) failed
-    | inr found ↦ or_right (is_in (drives_in p.failed.items) e) _ (still_found e found)
-  ]
 
   abbrev IsFirst : Drive → Type 0
   IsFirst e = is_in (take t.count (order_of (request_of t) spent)) e ≡ true
@@ -164,12 +183,12 @@ module _ {S : Type 0} (place_of : S → RawPlace) (f : FabricView) (t : Request)
       ap (λ (x : _). spent_by x.items new.search.empty.items e) after.failed ∙ ap (λ (x : _). spent_by p.failed.items x.items e) after.empty
 
   -- the group is in order once its slots, the set of its drives, and how many stand on each node are told
-  in_order : (new : PartialGroup S) → IsAfter new → 0 < length p.failed.items → t.count ≤ vec_capacity new.waiting → (now : List Drive) → drives_of_all place_of (slots_of new) ≡ now
+  in_order : (new : PartialGroup S) → IsAfter new → t.count ≤ vec_capacity new.waiting → (now : List Drive) → drives_of_all place_of (slots_of new) ≡ now
       → All (λ held. IsPlaceOf t.shape (place_from (place_of held))) (slots_of new) → length (slots_of new) ≤ t.count
       → ((e : Drive) → is_of t.shape e ≡ true → has q.taken e ≡ (has t.used e || is_in now e))
       → ((node : ℕ) → 1 ≤ node → node ≤ t.shape.nodes → drives_on t.shape.drives node (has q.taken) ≡ units_on (request_of t) now node)
       → MayGive (request_of t) spent now → ((e : Drive) → is_in now e ≡ true → IsFirst e) → IsInOrder place_of t new (slots_of new)
-  in_order new after some waiting now now_is places few taken units may among = record {
+  in_order new after waiting now now_is places few taken units may among = record {
     cluster = old.cluster;
     none = after.none;
     places = places;
@@ -186,14 +205,8 @@ module _ {S : Type 0} (place_of : S → RawPlace) (f : FabricView) (t : Request)
         subst (λ (x : _). is_in (take t.count (order_of (request_of t) (spent_by x.items new.search.empty.items))) e ≡ true) (sym after.failed)
         (subst (λ (x : _). is_in (take t.count (order_of (request_of t) (spent_by p.failed.items x.items))) e ≡ true) (sym after.empty)
         (among e (ap (λ xs. is_in xs e) (sym now_is) ∙ there)));
-    order = λ none.
-        let never = ap length none in
-        let same : length new.failed.items ≡ length p.failed.items = ap (λ (x : _). length x.items) after.failed in
-        absurd (omega (arith, never, same, some));
-    passed = λ none.
-        let never = ap length none in
-        let same : length new.failed.items ≡ length p.failed.items = ap (λ (x : _). length x.items) after.failed in
-        absurd (omega (arith, never, same, some));
+    apart = λ e there.
+        ap (λ (x : _). is_in (drives_at x.items) e) after.empty ∙ failed_apart e (ap (λ (x : _). is_in (drives_in x.items) e) (sym after.failed) ∙ there);
     counted =
         let same : length new.failed.items ≡ length p.failed.items = ap (λ (x : _). length x.items) after.failed in
         let long : length new.search.empty.items ≡ length q.empty.items = ap (λ (x : _). length x.items) after.empty in
@@ -232,10 +245,14 @@ module _ {S : Type 0} (place_of : S → RawPlace) (f : FabricView) (t : Request)
           ]
     ]
 
-    pub none-in_order : (new : PartialGroup S) → IsAfter new → 0 < length p.failed.items → new.waiting ≡ p.waiting → IsInOrder place_of t new (slots_of new)
-    none-in_order new after some waiting =
-        let same : slots_of new ≡ slots_of p = ap (λ (x : _). x.items ++ reverse new.waiting.items) after.written ∙ ap (λ (x : _). p.written.items ++ reverse x.items) waiting in
-        in_order new after some (subst (λ (x : _). t.count ≤ vec_capacity x) (sym waiting) old.room.waiting) drives (ap (drives_of_all place_of) same)
+    pub none-slots : (new : PartialGroup S) → IsAfter new → new.waiting ≡ p.waiting → slots_of new ≡ slots_of p
+    none-slots new after waiting =
+        ap (λ (x : _). x.items ++ reverse new.waiting.items) after.written ∙ ap (λ (x : _). p.written.items ++ reverse x.items) waiting
+
+    pub none-in_order : (new : PartialGroup S) → IsAfter new → new.waiting ≡ p.waiting → IsInOrder place_of t new (slots_of new)
+    none-in_order new after waiting =
+        let same = none-slots new after waiting in
+        in_order new after (subst (λ (x : _). t.count ≤ vec_capacity x) (sym waiting) old.room.waiting) drives (ap (drives_of_all place_of) same)
         (subst (All (λ held. IsPlaceOf t.shape (place_from (place_of held)))) (sym same) old.places)
         (subst (λ xs. length xs ≤ t.count) (sym same) old.few)
         (λ e of. keeps.search.taken e of ∙ ap (λ xs. has p.search.taken e || is_in (drives_of_all place_of xs) e) none ∙ or_false (has p.search.taken e) ∙ old.taken e of)
@@ -249,15 +266,6 @@ module _ {S : Type 0} (place_of : S → RawPlace) (f : FabricView) (t : Request)
   module _ (x : S) (given : q.slots.items ≡ x ∷ []) where
     abbrev pub drive : Drive
     drive = drive_of place_of x
-
-    abbrev ahead : List Drive
-    ahead = drives_of_all place_of p.written.items
-
-    abbrev behind : List Drive
-    behind = drives_of_all place_of (reverse p.waiting.items)
-
-    drives_are : drives ≡ ahead ++ behind
-    drives_are = map-append (drive_of place_of) p.written.items (reverse p.waiting.items)
 
     drives_given : drives_of_all place_of q.slots.items ≡ drive ∷ []
     drives_given = ap (drives_of_all place_of) given
@@ -294,18 +302,27 @@ module _ {S : Type 0} (place_of : S → RawPlace) (f : FabricView) (t : Request)
         let is = ap one_if (eq-eqb drive.node drive.node refl) in
         omega (arith, units, spread, one, is)
 
-    pub given-in_order : (new : PartialGroup S) → IsAfter new → 0 < length p.failed.items → length (slots_of p) < t.count
-        → new.waiting.items ≡ p.waiting.items ++ x ∷ [] → vec_capacity new.waiting ≡ vec_capacity p.waiting → IsInOrder place_of t new (slots_of new)
-    given-in_order new after some short waiting capacity =
-        let slots : slots_of new ≡ p.written.items ++ x ∷ reverse p.waiting.items =
+    pub given-slots : (new : PartialGroup S) → IsAfter new → new.waiting.items ≡ p.waiting.items ++ x ∷ []
+        → slots_of new ≡ p.written.items ++ x ∷ reverse p.waiting.items
+    given-slots new after waiting =
         ap (λ (v : _). v.items ++ reverse new.waiting.items) after.written
         ∙ ap (λ xs. p.written.items ++ reverse xs) waiting
-        ∙ ap (λ xs. p.written.items ++ xs) (reverse-append p.waiting.items (x ∷ [])) in
-        let now_is : drives_of_all place_of (slots_of new) ≡ ahead ++ drive ∷ behind = ap (drives_of_all place_of) slots ∙ map-append (drive_of place_of) p.written.items (x ∷ reverse p.waiting.items) in
+        ∙ ap (λ xs. p.written.items ++ xs) (reverse-append p.waiting.items (x ∷ []))
+
+    pub given-drives : (new : PartialGroup S) → IsAfter new → new.waiting.items ≡ p.waiting.items ++ x ∷ []
+        → drives_of_all place_of (slots_of new) ≡ ahead ++ drive ∷ behind
+    given-drives new after waiting =
+        ap (drives_of_all place_of) (given-slots new after waiting) ∙ map-append (drive_of place_of) p.written.items (x ∷ reverse p.waiting.items)
+
+    pub given-in_order : (new : PartialGroup S) → IsAfter new → length (slots_of p) < t.count
+        → new.waiting.items ≡ p.waiting.items ++ x ∷ [] → vec_capacity new.waiting ≡ vec_capacity p.waiting → IsInOrder place_of t new (slots_of new)
+    given-in_order new after short waiting capacity =
+        let slots = given-slots new after waiting in
+        let now_is = given-drives new after waiting in
         let place = All-head (λ held. IsPlaceOf t.shape (place_from (place_of held))) x [] (subst (All (λ held. IsPlaceOf t.shape (place_from (place_of held)))) given keeps.search.places) in
         let long = length-append p.written.items (x ∷ reverse p.waiting.items) in
         let was = length-append p.written.items (reverse p.waiting.items) in
-        in_order new after some (subst (λ n. t.count ≤ n) (sym capacity) old.room.waiting) (ahead ++ drive ∷ behind) now_is
+        in_order new after (subst (λ n. t.count ≤ n) (sym capacity) old.room.waiting) (ahead ++ drive ∷ behind) now_is
         (subst (All (λ held. IsPlaceOf t.shape (place_from (place_of held)))) (sym slots)
         (All-with (λ held. IsPlaceOf t.shape (place_from (place_of held))) p.written.items (reverse p.waiting.items) x place old.places))
         (subst (λ xs. length xs ≤ t.count) (sym slots) (omega (arith, short, long, was)))

@@ -5,7 +5,7 @@ use Rattle.std.specs.List.{All}
 use Rattle.std.proofs.lemmas.Bool.{and_from, cases_Bool, not_from_false, or_cases, or_from, or_left, or_parts, or_right}
 use Rattle.std.proofs.lemmas.List.{length-append, length_push, map-append}
 use Rattle.domains.specs.Shape.{is_of}
-use Rattle.domains.specs.Drive.{Drive, IsDrive, same_drive, is_in}
+use Rattle.domains.specs.Drive.{Drive, same_drive, is_in}
 use Rattle.domains.specs.Place.{IsPlaceOf, Place}
 use Rattle.domains.specs.DriveSet.{has}
 use Rattle.domains.specs.Room.{drives_on}
@@ -13,19 +13,21 @@ use Rattle.flex_io.specs.declared.raw_place.RawPlace.{RawPlace}
 use Rattle.held_slots.specs.Slots.{drive_of, place_from}
 use Rattle.domains.proofs.ShapeLemmas.{IsDrive-of}
 use Rattle.placement_order.specs.OrderLaws.{MayBeTried, MayGive}
-use Rattle.placement.specs.Draws.{drives_at, drives_of_all}
+use Rattle.slot_search.specs.HandSeats.{drives_at, drives_of_all}
 use Rattle.placement_order.specs.Order.{units_on}
+use Rattle.placement_order.specs.Stages.{ComesTo}
+use Rattle.placement_order.proofs.OrderMembers.{each_push}
 use Rattle.placement.specs.PlacedGroups.{drives_in, spent_by}
-use Rattle.placement.specs.Searches.{is_closed, request_of}
-use Rattle.placement.specs.PartialGroups.{IsInOrder, slots_of, slots_with}
+use Rattle.slot_search.specs.Searches.{is_closed, request_of}
+use Rattle.placement.specs.PartialGroups.{IsAtStage, IsBetweenStages, IsInOrder, NotesFailure, slots_of, slots_with}
 use Rattle.placement.specs.declared.partial_group.PartialGroup.{PartialGroup}
-use Rattle.placement.specs.declared.request.Request.{Request}
+use Rattle.slot_search.specs.declared.request.Request.{Request}
 use Rattle.placement.proofs.SlotLists.{All-midst, All-without}
 use Rattle.placement_order.proofs.GroupChanges.{MayGive-again, MayGive-less, count_by-midst, is_left-parts, is_out, MayBeTried-push}
 use Rattle.placement_order.proofs.ApartDrives.{is_in-midst}
 use Rattle.placement_order.proofs.MarkedDrives.{MarksOne, drives_on-marked, marked_up_to-few, marked_up_to-marked}
 use Rattle.domains.proofs.DriveLemmas.{is_in-push, same_drive-eq, same_drive-self, same_drive-sym}
-use Rattle.placement.proofs.TriedDrives.{is_other}
+use Rattle.slot_search.proofs.TriedDrives.{is_other}
 use Rattle.placement_order.proofs.PrefixDrives.{prefixes-keep}
 
 -- a drive's word is taken off beside others
@@ -90,35 +92,7 @@ module _ {S : Type 0} (place_of : S → RawPlace) (t : Request) (p new : Partial
       let few = marked_up_to-few t.shape gone (has p.search.spent) gone-of unspent in
       omega (arith, counted, space, few)
 
-  -- what becomes of the sets and the lists
-  pub record IsAside : Type 0 where
-    pub removed : (e : Drive) → IsDrive e → has new.search.taken e ≡ (not (same_drive e gone) && has p.search.taken e)
-    pub added : (e : Drive) → IsDrive e → has new.search.spent e ≡ (same_drive e gone || has p.search.spent e)
-    pub slots : new.search.slots ≡ p.search.slots
-    pub empty : new.search.empty ≡ p.search.empty
-    pub waiting : new.waiting ≡ p.waiting
-    pub written : new.written ≡ p.written
-    pub failed : new.failed.items ≡ p.failed.items ++ place_from (place_of held) ∷ []
-    pub capacity : vec_capacity new.failed ≡ vec_capacity p.failed
-
-  -- the calls that made it so
-  pub IsAside-made : (place : Place) (first second : Drive) → place ≡ place_from (place_of held) → first ≡ place.drive → second ≡ place.drive
-      → ((e : Drive) → IsDrive e → has new.search.taken e ≡ (not (same_drive e first) && has p.search.taken e))
-      → ((e : Drive) → IsDrive e → has new.search.spent e ≡ (same_drive e second || has p.search.spent e))
-      → new.search.slots ≡ p.search.slots → new.search.empty ≡ p.search.empty → new.waiting ≡ p.waiting → new.written ≡ p.written
-      → new.failed.items ≡ p.failed.items ++ place ∷ [] → vec_capacity new.failed ≡ vec_capacity p.failed → IsAside
-  IsAside-made place first second is one two removed added slots empty waiting written failed capacity = record {
-    removed = λ e drive. removed e drive ∙ ap (λ d. not (same_drive e d) && has p.search.taken e) (one ∙ ap (λ (x : Place). x.drive) is);
-    added = λ e drive. added e drive ∙ ap (λ d. same_drive e d || has p.search.spent e) (two ∙ ap (λ (x : Place). x.drive) is);
-    slots = slots;
-    empty = empty;
-    waiting = waiting;
-    written = written;
-    failed = failed ∙ ap (λ x. p.failed.items ++ x ∷ []) is;
-    capacity = capacity;
-  }
-
-  module _ (is : IsAside) where
+  module _ (is : NotesFailure (place_from (place_of held)) p new) where
     -- a drive that was closed stays so: one that is no longer taken is spent
     pub closed_still : (e : Drive) → is_of t.shape e ≡ true → is_closed p.search e ≡ true → is_closed new.search e ≡ true
     closed_still e of closed =
@@ -187,6 +161,20 @@ module _ {S : Type 0} (place_of : S → RawPlace) (t : Request) (p new : Partial
         let count = count_by-midst (λ (x : Drive). eqb x.node node) before after gone in
         omega (arith, before_it, marked, count)
 
+    -- the group was at a stage when the slot failed
+    pub aside-between : IsAtStage place_of t p (slots_with p held) → IsBetweenStages place_of t new
+    aside-between stage = record {
+      earlier = drives_in p.failed.items;
+      last = gone;
+      failed = now_failed;
+      stage =
+          subst (λ (x : _). ComesTo (request_of t) t.count (drives_of_all place_of x.items ++ gone ∷ drives_of_all place_of (reverse new.waiting.items)) (drives_in p.failed.items) (drives_at new.search.empty.items))
+          (sym is.written)
+          (subst (λ (x : _). ComesTo (request_of t) t.count (before ++ gone ∷ drives_of_all place_of (reverse x.items)) (drives_in p.failed.items) (drives_at new.search.empty.items)) (sym is.waiting)
+          (subst (λ (x : _). ComesTo (request_of t) t.count (before ++ gone ∷ after) (drives_in p.failed.items) (drives_at x.items)) (sym is.empty)
+          (subst (λ ds. ComesTo (request_of t) t.count ds (drives_in p.failed.items) (drives_at p.search.empty.items)) with_it stage)));
+    }
+
     pub aside-in_order : IsInOrder place_of t new (slots_of new)
     aside-in_order =
         let more = ap length is.failed ∙ length_push p.failed.items (place_from (place_of held)) in
@@ -209,8 +197,10 @@ module _ {S : Type 0} (place_of : S → RawPlace) (t : Request) (p new : Partial
               prefixes-keep (request_of t) (spent_by p.failed.items p.search.empty.items) (spent_by new.failed.items new.search.empty.items)
               (λ x spent. now_spent x ∙ or_right (same_drive x gone) _ spent) t.count e (not_spent e mine)
               (old.first e (ap (λ xs. is_in xs e) with_it ∙ is_in-midst before after gone e ∙ or_left _ (same_drive gone e) mine));
-          order = λ none. let never = ap length none in absurd (omega (arith, never, more));
-          passed = λ none. let never = ap length none in absurd (omega (arith, never, more));
+          apart = λ e there.
+              ap (λ (x : _). is_in (drives_at x.items) e) is.empty
+              ∙ each_push (λ d. is_in (drives_at p.search.empty.items) d ≡ false) (drives_in p.failed.items) gone old.apart (or_parts _ _ was.2).1
+              e (ap (λ xs. is_in xs e) (sym now_failed) ∙ there);
           counted =
               let counted = old.counted in
               let long : length new.search.empty.items ≡ length p.search.empty.items = ap (λ (x : _). length x.items) is.empty in

@@ -1,5 +1,5 @@
 -- What the hand did, once a slot that failed is retired.
-use Rattle.std.proofs.Common.{◌≡◌, ℕ, ◌+◌, true, false, List, [], ◌∷◌, ◌++◌, reverse, refl, sym, ap, subst, ◌∙◌, arith}
+use Rattle.std.proofs.Common.{◌≡◌, ℕ, ◌+◌, true, false, List, [], ◌∷◌, ◌++◌, reverse, sym, ap, subst, ◌∙◌, arith}
 use Rattle.std.specs.Prelude.{Option}
 use Rattle.std.specs.List.{All}
 use Rattle.std.proofs.lemmas.Bool.{or_from, or_parts}
@@ -8,24 +8,24 @@ use Rattle.domains.specs.Shape.{is_of}
 use Rattle.domains.specs.Drive.{Drive, same_drive, is_in}
 use Rattle.flex_io.specs.Faults.{HasRisen}
 use Rattle.flex_io.specs.declared.raw_place.RawPlace.{RawPlace}
-use Rattle.held_slots.specs.Slots.{count_on, drive_of, is_on, place_from}
+use Rattle.held_slots.specs.Slots.{count_on, drive_of, place_from}
 use Rattle.domains.specs.Place.{IsPlaceOf}
 use Rattle.fabric.specs.Accounts.{Holds, Loses, Stays}
 use Rattle.fabric.specs.PoolTurns.{Takes}
 use Rattle.fabric.specs.Views.{seat_on}
 use Rattle.fabric.specs.declared.hand.Hand.{Hand}
-use Rattle.placement.specs.Draws.{AtSeat, FoundEmpty, drives_of_all}
+use Rattle.slot_search.specs.HandSeats.{AtSeat, FoundEmpty, drives_of_all}
 use Rattle.placement.specs.PlacedGroups.{AreWritten, HasFailed}
-use Rattle.placement.specs.PartialGroups.{HasLost, HasPlaced, IsInOrder, slots_of, slots_with}
+use Rattle.placement.specs.PartialGroups.{HasLost, HasPlaced, IsInOrder, NotesFailure, slots_of, slots_with}
 use Rattle.placement.specs.declared.partial_group.PartialGroup.{PartialGroup}
-use Rattle.placement.specs.declared.request.Request.{Request}
-use Rattle.placement.proofs.SlotFailed.{IsAside, after, before, gone-of, group, now_spent, slots_are, with_it, gone-place}
+use Rattle.slot_search.specs.declared.request.Request.{Request}
+use Rattle.placement.proofs.SlotFailed.{after, before, gone-of, group, now_spent, slots_are, with_it, gone-place}
 use Rattle.placement.proofs.SlotLists.{All-right}
 use Rattle.placement_order.proofs.ApartDrives.{is_in-midst}
 use Rattle.domains.specs.Counts.{one_if}
 use Rattle.placement.proofs.OtherSeats.{RetiresEach-push, all-failed-stay, all-written-stay, empty-rests, waiting-stays}
 use Rattle.domains.proofs.DriveLemmas.{same_drive-sym}
-use Rattle.placement.proofs.TriedDrives.{seat-stays}
+use Rattle.slot_search.proofs.TriedDrives.{seat-stays}
 use Rattle.std.proofs.lemmas.List.{map-append, reverse-append}
 use Rattle.fabric.specs.YardTurns.{Retires}
 use Rattle.turn_cell.specs.Seats.{seat_view}
@@ -38,7 +38,7 @@ count_on-between place_of e xs ys x =
     let all = count_on-midst place_of e xs ys x in let same = ap one_if (same_drive-sym e (drive_of place_of x)) in omega (arith, all, same)
 
 module _ {S : Type 0} (place_of : S → RawPlace) (content : S → Option (List ℕ)) (len_of faults : S → ℕ) (t : Request) (p new : PartialGroup S) (held : S)
-    (old : IsInOrder place_of t p (slots_with p held)) (is : IsAside place_of t p new held old) where
+    (old : IsInOrder place_of t p (slots_with p held)) (is : NotesFailure (place_from (place_of held)) p new) where
   pub parted : (units : List (List ℕ)) (start hand_old hand_new : Hand S) (drawn : S) → ((e : Drive) → is_of t.shape e ≡ true → seat_on t.shape hand_new e ≡ seat_on t.shape hand_old e)
       → Retires place_of held (seat_view hand_old.yard) (seat_view hand_new.yard)
       → Loses t.shape (drive_of place_of held) hand_old hand_new → HasRisen (faults drawn) (faults held)

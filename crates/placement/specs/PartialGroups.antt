@@ -1,28 +1,28 @@
 -- How far a group is placed.
-use Rattle.std.specs.Prelude.{◌≡◌, ℕ, ◌+◌, ◌*◌, ◌<◌, ◌≤◌, true, false, ◌||◌, List, [], ◌∷◌, ◌++◌, length, take, reverse, vec_capacity, Option}
+use Rattle.std.specs.Prelude.{◌≡◌, ℕ, ◌+◌, ◌*◌, ◌<◌, ◌≤◌, true, false, not, ◌&&◌, ◌||◌, List, [], ◌∷◌, ◌++◌, length, take, reverse, vec_capacity, Option}
 use Rattle.std.specs.List.{All}
 use Rattle.domains.specs.Shape.{IsShape, Shape, is_of}
-use Rattle.domains.specs.Drive.{Drive, is_in}
+use Rattle.domains.specs.Drive.{Drive, IsDrive, is_in, same_drive}
 use Rattle.domains.specs.DriveSet.{has}
 use Rattle.domains.specs.Room.{drives_on}
 use Rattle.flex_io.specs.Faults.{HasRisen}
 use Rattle.flex_io.specs.declared.raw_place.RawPlace.{RawPlace}
 use Rattle.held_slots.specs.Slots.{count_on, drive_of, place_from}
-use Rattle.domains.specs.Place.{IsPlaceOf}
+use Rattle.domains.specs.Place.{IsPlaceOf, Place}
 use Rattle.fabric.specs.Accounts.{Holds}
 use Rattle.fabric.specs.PoolTurns.{Takes}
 use Rattle.fabric.specs.Views.{seat_on}
 use Rattle.fabric.specs.declared.hand.Hand.{Hand}
-use Rattle.placement.specs.Draws.{AreOfCluster, AtSeat, FoundEmpty, drives_at, drives_of_all}
+use Rattle.slot_search.specs.HandSeats.{AreOfCluster, AtSeat, FoundEmpty, drives_at, drives_of_all}
 use Rattle.placement_order.specs.OrderLaws.{MayBeTried, NoneIsLeft, MayGive}
 use Rattle.placement_order.specs.Order.{order_of, units_on}
-use Rattle.placement_order.specs.PassedDrives.{passed_of}
+use Rattle.placement_order.specs.Stages.{ComesTo}
 use Rattle.placement.specs.PlacedGroups.{AreWritten, FailedAndRetired, FindsNoPlace, drives_in, spent_by}
-use Rattle.placement.specs.Searches.{IsNew, request_of}
+use Rattle.slot_search.specs.Searches.{IsNew, request_of}
 use Rattle.placement_order.specs.Room.{marked_up_to}
 use Rattle.placement.specs.declared.partial_group.PartialGroup.{PartialGroup}
 use Rattle.placement.specs.declared.refusal.NoRoom.{NoRoom}
-use Rattle.placement.specs.declared.request.Request.{Request}
+use Rattle.slot_search.specs.declared.request.Request.{Request}
 
 module _ {S : Type 0} where
   -- the group's slots by position: those that are written, and those that wait, of which the next one stands last
@@ -41,9 +41,20 @@ module _ {S : Type 0} where
     pub empty : t.shape.nodes * t.shape.drives ≤ vec_capacity p.search.empty
     pub failed : t.shape.nodes * t.shape.drives ≤ vec_capacity p.failed
 
+  -- the slot of this place failed: the drive is taken off those that the group has and is spent, and the place is the last that failed
+  pub record NotesFailure (place : Place) (old new : PartialGroup S) : Type 0 where
+    pub removed : (e : Drive) → IsDrive e → has new.search.taken e ≡ (not (same_drive e place.drive) && has old.search.taken e)
+    pub added : (e : Drive) → IsDrive e → has new.search.spent e ≡ (same_drive e place.drive || has old.search.spent e)
+    pub slots : new.search.slots ≡ old.search.slots
+    pub empty : new.search.empty ≡ old.search.empty
+    pub waiting : new.waiting ≡ old.waiting
+    pub written : new.written ≡ old.written
+    pub failed : new.failed.items ≡ old.failed.items ++ place ∷ []
+    pub capacity : vec_capacity new.failed ≡ vec_capacity old.failed
+
 module _ {S : Type 0} (place_of : S → RawPlace) where
   -- a group that is being placed, of these slots: its sets are those of its lists, and its drives may give slots together and are among the
-  -- first of the order; if none failed, position by position, and the drives found empty are those passed over
+  -- first of the order; no drive that failed was found empty
   pub record IsInOrder (t : Request) (p : PartialGroup S) (slots : List S) : Type 0 where
     pub cluster : IsShape t.shape
     pub none : p.search.slots.items ≡ []
@@ -57,11 +68,22 @@ module _ {S : Type 0} (place_of : S → RawPlace) where
     pub failed_tried : MayBeTried (request_of t) (drives_in p.failed.items)
     pub first : (d : Drive) → is_in (drives_of_all place_of slots) d ≡ true
         → is_in (take t.count (order_of (request_of t) (spent_by p.failed.items p.search.empty.items))) d ≡ true
-    pub order : p.failed.items ≡ [] → drives_of_all place_of slots ≡ take t.count (order_of (request_of t) (is_in (drives_at p.search.empty.items)))
-    pub passed : p.failed.items ≡ [] → drives_at p.search.empty.items ≡ passed_of (request_of t) (is_in (drives_at p.search.empty.items)) t.count
+    pub apart : (d : Drive) → is_in (drives_in p.failed.items) d ≡ true → is_in (drives_at p.search.empty.items) d ≡ false
     pub counted : length p.search.empty.items + length p.failed.items ≤ marked_up_to t.shape.nodes t.shape.drives (has p.search.spent)
     pub few : length slots ≤ t.count
     pub room : HasRoom t p
+
+  -- the group came to these slots, by position, and found drives empty in the order of its list
+  abbrev pub IsAtStage : Request → PartialGroup S → List S → Type 0
+  IsAtStage t p slots = ComesTo (request_of t) t.count (drives_of_all place_of slots) (drives_in p.failed.items) (drives_at p.search.empty.items)
+
+  -- the group was at a stage when the last slot failed, which stood between those that are written and those that wait
+  pub record IsBetweenStages (t : Request) (p : PartialGroup S) : Type 0 where
+    pub earlier : List Drive
+    pub last : Drive
+    pub failed : drives_in p.failed.items ≡ earlier ++ last ∷ []
+    pub stage : ComesTo (request_of t) t.count (drives_of_all place_of p.written.items ++ last ∷ drives_of_all place_of (reverse p.waiting.items)) earlier
+        (drives_at p.search.empty.items)
 
 module _ {S : Type 0} (place_of : S → RawPlace) (content : S → Option (List ℕ)) (len_of faults : S → ℕ) where
   -- what the hand did since the start, to come to these slots of the group
@@ -107,10 +129,18 @@ module _ {S : Type 0} (place_of : S → RawPlace) where
 
   -- the group has fewer slots than it wants, and no drive is left
   pub record HasNoRoom (t : Request) (p : PartialGroup S) : Type 0 where
+    pub stage : IsAtStage place_of t p (slots_of p)
     pub short : length (slots_of p) < t.count
     pub none : NoneIsLeft (request_of t) (spent_by p.failed.items p.search.empty.items) (drives_of_all place_of (slots_of p))
 
 module _ {S : Type 0} (place_of : S → RawPlace) (content : S → Option (List ℕ)) (len_of faults : S → ℕ) where
+  -- all slots of the group are drawn that there are, and wait
+  pub record IsDrawnGroup (t : Request) (p : PartialGroup S) (start now : Hand S) : Type 0 where
+    pub in_order : IsInOrder place_of t p (slots_of p)
+    pub stage : IsAtStage place_of t p (slots_of p)
+    pub placed : (units : List (List ℕ)) → HasPlaced place_of content len_of faults t units p (slots_of p) start now
+    pub no_room : length p.waiting.items < t.count → HasNoRoom place_of t p
+
   -- the refusal tells why the group has no room, whatever the start was
   abbrev pub TellsNoRoom : Request → PartialGroup S → NoRoom → Hand S → Hand S → Type 0
   TellsNoRoom t p told hand_old hand_new = (units : List (List ℕ)) (start : Hand S) → length units ≡ t.count → HasNoRoom place_of t p

@@ -18,10 +18,10 @@ use Rattle.fabric.specs.Views.{seat_on}
 use Rattle.fabric.specs.declared.hand.Hand.{Hand}
 use Rattle.placement_order.specs.Order.{DrawRequest, order_of}
 use Rattle.placement_order.specs.OrderLaws.{MayBeTried, MayGive, NoneIsLeft}
-use Rattle.placement_order.specs.PassedDrives.{passed_of}
 use Rattle.placement_order.specs.Room.{room_left}
-use Rattle.placement.specs.Draws.{AreOfCluster, AtSeat, FoundEmpty, WentBack, drives_at, drives_of_all}
-use Rattle.placement.specs.declared.refusal.EmptyAt.{EmptyAt}
+use Rattle.placement_order.specs.Stages.{ComesTo}
+use Rattle.slot_search.specs.HandSeats.{AtSeat, FoundEmpty, WentBack, drives_at, drives_of_all}
+use Rattle.slot_search.specs.declared.empty_at.EmptyAt.{EmptyAt}
 use Rattle.placement.specs.declared.refusal.NoRoom.{NoRoom}
 
 -- the drives of places
@@ -81,7 +81,7 @@ module _ {S : Type 0} (place_of : S → RawPlace) (faults : S → ℕ) where
 
 module _ {S : Type 0} (place_of : S → RawPlace) (content : S → Option (List ℕ)) (len_of faults : S → ℕ) where
   -- the group is placed: a slot for each unit, on the first drives of the order, where the drives are spent that were found empty or whose
-  -- slot failed; position by position if none failed, and then the drives found empty are those passed over
+  -- slot failed; position by position as the stages of the group tell, which also tell in which order the drives were found empty
   pub record Places (s : DrawRequest) (units : List (List ℕ)) (slots : List S) (old new : Hand S) : Type 0 where
     pub found : List EmptyAt
     pub failed : List Place
@@ -90,12 +90,12 @@ module _ {S : Type 0} (place_of : S → RawPlace) (content : S → Option (List 
     pub may : MayGive s (spent_by failed found) (drives_of_all place_of slots)
     pub first : (d : Drive) → is_in (drives_of_all place_of slots) d ≡ is_in (take (length units) (order_of s (spent_by failed found))) d
     pub order : failed ≡ [] → drives_of_all place_of slots ≡ take (length units) (order_of s (is_in (drives_at found)))
-    pub passed : failed ≡ [] → drives_at found ≡ passed_of s (is_in (drives_at found)) (length units)
+    pub stages : ComesTo s (length units) (drives_of_all place_of slots) (drives_in failed) (drives_at found)
     pub tried : Tried place_of faults s slots failed found old new
     pub account : (d : Drive) (many : ℕ) → is_of s.shape d ≡ true → Holds s.shape d many old → Holds s.shape d (many + count_on place_of d slots) new
 
   -- fewer drives than units may give slots to the group together: no drive is left to these. Their slots went back to their pools, and the
-  -- hand holds what it held. If none failed, the drives found empty are named in the order in which they were found
+  -- hand holds what it held. The drives found empty are named in the order in which they were found
   pub record FindsNoPlace (s : DrawRequest) (units : List (List ℕ)) (e : NoRoom) (old new : Hand S) : Type 0 where
     pub slots : List S
     pub need : e.need ≡ length units
@@ -103,7 +103,7 @@ module _ {S : Type 0} (place_of : S → RawPlace) (content : S → Option (List 
     pub short : e.got < length units
     pub may : MayGive s (spent_by e.failed e.empty) (drives_of_all place_of slots)
     pub all : NoneIsLeft s (spent_by e.failed e.empty) (drives_of_all place_of slots)
-    pub passed : e.failed ≡ [] → drives_at e.empty ≡ passed_of s (is_in (drives_at e.empty)) (length units)
+    pub stages : ComesTo s (length units) (drives_of_all place_of slots) (drives_in e.failed) (drives_at e.empty)
     pub went_back : All (WentBack place_of s.shape old new) slots
     pub tried : Tried place_of faults s slots e.failed e.empty old new
     pub same : Stays s.shape old new

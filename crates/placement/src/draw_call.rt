@@ -5,19 +5,18 @@ ghost use Rattle.domains.specs.Drive.{Drive};
 ghost use Rattle.domains.specs.DriveSet.{has};
 ghost use Rattle.turn_cell.specs.Seats.{seat_view};
 ghost use Rattle.fabric.specs.Views.{IsHandOf, fabric_view, number_of};
-ghost use Rattle.placement.specs.Draws.{Draws, FindsNoRoom, IfNoMemory, IfNoRoom, IsSameDesk, LosesSlots, TriesOnce, draw_request};
-ghost use Rattle.placement.specs.Searches.{request_of};
+ghost use Rattle.slot_search.specs.HandSeats.{TriesOnce, draw_request};
+ghost use Rattle.placement.specs.Draws.{Draws, FindsNoRoom, IfNoMemory, IfNoRoom, IsSameDesk, LosesSlots};
+ghost use Rattle.slot_search.specs.Searches.{KeepsHand, request_of};
 
 use crate::refusal::{NoRoom, PlaceRefusal};
-use crate::release::release_all;
-use crate::request::Request;
-use crate::search::{Search, draw_all};
 use board::View;
 use domains::{DriveSet, Level};
 use fabric::{Desk, Fabric, Hand};
 use flex_io::{Gate, Slot};
 use held_slots::Held;
 use lists::List;
+use slot_search::{Request, Search, draw_all, release_all};
 use std::alloc::Global;
 use std::sync::Wait;
 
@@ -67,9 +66,7 @@ fn draw_by<S: Slot + Send + Drop, R: Wait>(
     requires hand { IsHandOf (fabric_view fabric.now) hand.old }
     requires barred { (d : Drive) → has request.now.barred d ≡ false }
     requires up { request.now.up ≡ view.now.up }
-    ensures hand { IsHandOf (fabric_view fabric.now) hand.new }
-    ensures number { number_of hand.new ≡ number_of hand.old }
-    ensures board { seat_view hand.new.board ≡ seat_view hand.old.board }
+    ensures keeps { KeepsHand (fabric_view fabric.now) hand.old hand.new }
     ensures once { TriesOnce S.place_of request.now.shape hand.old hand.new }
     ensures ok { IfOk result (λ slots. Draws S.place_of (request_of request.now) request.now.count slots hand.old hand.new) }
     ensures no_room { IfErr result (λ e. IfNoRoom e (λ told. FindsNoRoom S.place_of (request_of request.now) request.now.count told hand.old hand.new)) }

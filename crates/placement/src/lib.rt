@@ -5,14 +5,12 @@ mod draw_call;
 mod partial_group;
 mod place_call;
 mod refusal;
-mod release;
-mod request;
-mod search;
 mod unit_writes;
 
 pub use draw_call::draw;
 pub use place_call::place;
-pub use refusal::{EmptyAt, NoRoom, PlaceRefusal};
+pub use refusal::{NoRoom, PlaceRefusal};
+pub use slot_search::EmptyAt;
 
 #[cfg(test)]
 mod tests;

@@ -1,24 +1,22 @@
 //! A group whose units are being written.
 
-ghost use Rattle.std.specs.Prelude.{◌≡◌, ℕ, List, true, false, IfOk, IfErr, ◌+◌, ◌<◌, ◌≤◌, length};
+ghost use Rattle.std.specs.Prelude.{◌≡◌, ℕ, List, true, false, IfOk, IfErr, ◌+◌, ◌<◌, ◌≤◌, length, vec_capacity};
 ghost use Rattle.flex_io.specs.Faults.{HasRisen};
 ghost use Rattle.flex_io.specs.Slots.{Holds, StaysTold};
 ghost use Rattle.domains.specs.Drive.{Drive};
 ghost use Rattle.domains.specs.DriveSet.{has};
-ghost use Rattle.turn_cell.specs.Seats.{seat_view};
-ghost use Rattle.fabric.specs.Views.{IsHandOf, fabric_view, number_of};
+ghost use Rattle.fabric.specs.Views.{IsHandOf, fabric_view};
 ghost use Rattle.placement_order.specs.OrderLaws.{NoneIsLeft};
-ghost use Rattle.placement.specs.Draws.{drives_of_all};
+ghost use Rattle.slot_search.specs.HandSeats.{drives_of_all};
 ghost use Rattle.placement.specs.PlacedGroups.{spent_by};
-ghost use Rattle.placement.specs.Searches.{AsksClosed, request_of};
-ghost use Rattle.placement.specs.PartialGroups.{GoesOn, GoesOnWith, IsInOrder, IsNewGroup, LosesOnTheWay, slots_of, slots_with};
+ghost use Rattle.slot_search.specs.Searches.{AsksClosed, KeepsHand, request_of};
+ghost use Rattle.placement.specs.PartialGroups.{GoesOn, GoesOnWith, IsAtStage, IsBetweenStages, IsInOrder, IsNewGroup, LosesOnTheWay, NotesFailure, slots_of, slots_with};
 
-use crate::request::Request;
-use crate::search::{Search, draw_all};
 use domains::Place;
 use fabric::{Fabric, Hand};
 use flex_io::{Fault, Slot};
 use held_slots::Held;
+use slot_search::{Request, Search, draw_all};
 use std::alloc::{AllocError, Global};
 use std::sync::Wait;
 
@@ -56,6 +54,16 @@ impl<S: Slot + Send + Drop> PartialGroup<S> {
             written,
             failed,
         })
+    }
+
+    /// Notes that the slot of this place failed: its drive is none of the group's any more, and spent.
+    fn note_failure(&mut self, place: Place)
+        requires room { length self.old.failed.items < vec_capacity self.old.failed }
+        ensures { NotesFailure place self.old self.new }
+    {
+        self.search.taken.remove(place.drive());
+        self.search.spent.add(place.drive());
+        self.failed.push_reserved(place);
     }
 }
 
@@ -95,25 +103,22 @@ pub(crate) fn set_aside<S: Slot + Send + Drop, R: Wait>(
     requires shape { (fabric_view fabric.now).shape ≡ request.now.shape }
     requires hand { IsHandOf (fabric_view fabric.now) hand.old }
     requires in_order { IsInOrder S.place_of request.now group.old (slots_with group.old held) }
+    requires stage { IsAtStage S.place_of request.now group.old (slots_with group.old held) }
     requires failed { 0 < S.faults held }
-    ensures hand { IsHandOf (fabric_view fabric.now) hand.new }
-    ensures number { number_of hand.new ≡ number_of hand.old }
-    ensures board { seat_view hand.new.board ≡ seat_view hand.old.board }
+    ensures keeps { KeepsHand (fabric_view fabric.now) hand.old hand.new }
     ensures in_order { IsInOrder S.place_of request.now group.new (slots_of group.new) }
     ensures once { (start : Hand S) → AsksClosed S.place_of request.now.shape group.old.search start hand.old
         → AsksClosed S.place_of request.now.shape group.new.search start hand.new }
     ensures waiting { group.new.waiting.items ≡ group.old.waiting.items }
     ensures written { group.new.written.items ≡ group.old.written.items }
     ensures failed { length group.new.failed.items ≡ length group.old.failed.items + 1 }
+    ensures between { IsBetweenStages S.place_of request.now group.new }
     ensures placed { result ≡ true → (units : List (List ℕ))
         → GoesOnWith S.place_of S.content S.len_of S.faults request.now units held group.old group.new hand.old hand.new }
     ensures lost { result ≡ false → (units : List (List ℕ))
         → LosesOnTheWay S.place_of S.content S.len_of S.faults request.now units group.old (slots_with group.old held) group.new hand.old hand.new }
 {
-    let place = held.place();
-    group.search.taken.remove(place.drive());
-    group.search.spent.add(place.drive());
-    group.failed.push_reserved(place);
+    group.note_failure(held.place());
     match fabric.retire(rt, hand, held) {
         Ok(()) => true,
         Err((_error, held)) => {
@@ -136,13 +141,12 @@ pub(crate) fn draw_one<S: Slot + Send + Drop, R: Wait>(
     requires hand { IsHandOf (fabric_view fabric.now) hand.old }
     requires in_order { IsInOrder S.place_of request.now group.old (slots_of group.old) }
     requires wanted { length (slots_of group.old) < request.now.count }
-    requires failed { 0 < length group.old.failed.items }
-    ensures hand { IsHandOf (fabric_view fabric.now) hand.new }
-    ensures number { number_of hand.new ≡ number_of hand.old }
-    ensures board { seat_view hand.new.board ≡ seat_view hand.old.board }
+    requires between { IsBetweenStages S.place_of request.now group.old }
+    ensures keeps { KeepsHand (fabric_view fabric.now) hand.old hand.new }
     ensures in_order { IsInOrder S.place_of request.now group.new (slots_of group.new) }
     ensures once { (start : Hand S) → AsksClosed S.place_of request.now.shape group.old.search start hand.old
         → AsksClosed S.place_of request.now.shape group.new.search start hand.new }
+    ensures stage { IsAtStage S.place_of request.now group.new (slots_of group.new) }
     ensures written { group.new.written.items ≡ group.old.written.items }
     ensures failed { group.new.failed.items ≡ group.old.failed.items }
     ensures given { result ≡ true → length group.new.waiting.items ≡ length group.old.waiting.items + 1 }

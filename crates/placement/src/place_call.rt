@@ -6,16 +6,14 @@ ghost use Rattle.domains.specs.Drive.{Drive};
 ghost use Rattle.domains.specs.DriveSet.{has};
 ghost use Rattle.turn_cell.specs.Seats.{seat_view};
 ghost use Rattle.fabric.specs.Views.{IsHandOf, fabric_view, number_of};
-ghost use Rattle.placement.specs.Draws.{IfNoMemory, IfNoRoom, IsSameDesk, LosesSlots, ReturnsOnce, TriesOnce, draw_request};
+ghost use Rattle.slot_search.specs.HandSeats.{ReturnsOnce, TriesOnce, draw_request};
+ghost use Rattle.placement.specs.Draws.{IfNoMemory, IfNoRoom, IsSameDesk, LosesSlots};
 ghost use Rattle.placement.specs.PlacedGroups.{FindsNoPlace, Places};
-ghost use Rattle.placement.specs.Searches.{AsksClosed, GivesBack, request_of};
-ghost use Rattle.placement.specs.PartialGroups.{HasLost, HasNoRoom, HasPlaced, IsInOrder, IsNewGroup, TellsNoRoom, slots_of};
+ghost use Rattle.slot_search.specs.Searches.{AsksClosed, GivesBack, KeepsHand, request_of};
+ghost use Rattle.placement.specs.PartialGroups.{HasLost, HasNoRoom, HasPlaced, IsAtStage, IsDrawnGroup, IsInOrder, IsNewGroup, TellsNoRoom, slots_of};
 
 use crate::partial_group::{PartialGroup, PlaceStop};
 use crate::refusal::{NoRoom, PlaceRefusal};
-use crate::release::release_all;
-use crate::request::Request;
-use crate::search::{Search, draw_all};
 use crate::unit_writes::write_all;
 use board::View;
 use domains::{DriveSet, Level};
@@ -24,6 +22,7 @@ use flex_io::{Gate, Slot};
 use held_slots::Held;
 use lists::List;
 use rs_codes::Units;
+use slot_search::{Request, Search, draw_all, release_all};
 use std::alloc::Global;
 use std::sync::Wait;
 
@@ -85,9 +84,7 @@ fn place_by<S: Slot + Send + Drop, R: Wait>(
     requires many { length units.now.units ≡ request.now.count }
     requires barred { (d : Drive) → has request.now.barred d ≡ false }
     requires up { request.now.up ≡ view.now.up }
-    ensures hand { IsHandOf (fabric_view fabric.now) hand.new }
-    ensures number { number_of hand.new ≡ number_of hand.old }
-    ensures board { seat_view hand.new.board ≡ seat_view hand.old.board }
+    ensures keeps { KeepsHand (fabric_view fabric.now) hand.old hand.new }
     ensures once { TriesOnce S.place_of request.now.shape hand.old hand.new }
     ensures ok { IfOk result (λ slots. Places S.place_of S.content S.len_of S.faults (request_of request.now) units.now.units slots hand.old hand.new) }
     ensures no_room { IfErr result (λ e. IfNoRoom e (λ told. FindsNoPlace S.place_of S.content S.len_of S.faults
@@ -122,12 +119,11 @@ fn place_all<S: Slot + Send + Drop, R: Wait>(
     requires many { length units.now.units ≡ request.now.count }
     requires barred { (d : Drive) → has request.now.barred d ≡ false }
     requires new { IsNewGroup S.place_of request.now group.old }
-    ensures hand { IsHandOf (fabric_view fabric.now) hand.new }
-    ensures number { number_of hand.new ≡ number_of hand.old }
-    ensures board { seat_view hand.new.board ≡ seat_view hand.old.board }
+    ensures keeps { KeepsHand (fabric_view fabric.now) hand.old hand.new }
     ensures in_order { IsInOrder S.place_of request.now group.new (slots_of group.new) }
     ensures once { AsksClosed S.place_of request.now.shape group.new.search hand.old hand.new }
     ensures full { OnOk result (length (slots_of group.new) ≡ request.now.count) }
+    ensures stage { OnOk result (IsAtStage S.place_of request.now group.new (slots_of group.new)) }
     ensures none_waits { OnOk result (group.new.waiting.items ≡ []) }
     ensures placed { OnOk result (HasPlaced S.place_of S.content S.len_of S.faults request.now units.now.units group.new (slots_of group.new) hand.old hand.new) }
     ensures no_room { IsErrOf result PlaceStop.NoRoom → HasNoRoom S.place_of request.now group.new }
@@ -135,12 +131,31 @@ fn place_all<S: Slot + Send + Drop, R: Wait>(
         → HasPlaced S.place_of S.content S.len_of S.faults request.now units.now.units group.new (slots_of group.new) hand.old hand.new }
     ensures lost { IsErrOf result PlaceStop.NoMemory → HasLost S.place_of request.now.shape (slots_of group.new) hand.old hand.new }
 {
-    draw_all(rt, fabric, hand, request, &mut group.search);
-    take_down(&mut group.search.slots, &mut group.waiting);
+    draw_group(rt, fabric, hand, request, group);
     if group.waiting.len() < usize::from(request.count) {
         return Err(PlaceStop::NoRoom);
     }
     write_all(rt, fabric, hand, request, units, group)
+}
+
+/// Draws all slots of a group, which wait then, the first one last.
+fn draw_group<S: Slot + Send + Drop, R: Wait>(
+    rt: &R,
+    fabric: &Fabric<S>,
+    hand: &mut Hand<S>,
+    request: &Request,
+    group: &mut PartialGroup<S>,
+)
+    requires shape { (fabric_view fabric.now).shape ≡ request.now.shape }
+    requires hand { IsHandOf (fabric_view fabric.now) hand.old }
+    requires barred { (d : Drive) → has request.now.barred d ≡ false }
+    requires new { IsNewGroup S.place_of request.now group.old }
+    ensures keeps { KeepsHand (fabric_view fabric.now) hand.old hand.new }
+    ensures once { AsksClosed S.place_of request.now.shape group.new.search hand.old hand.new }
+    ensures drawn { IsDrawnGroup S.place_of S.content S.len_of S.faults request.now group.new hand.old hand.new }
+{
+    draw_all(rt, fabric, hand, request, &mut group.search);
+    take_down(&mut group.search.slots, &mut group.waiting);
 }
 
 /// Moves all slots behind the others, the last one first.
@@ -192,9 +207,7 @@ fn refuse<S: Slot + Send + Drop, R: Wait>(
     requires hand { IsHandOf (fabric_view fabric.now) hand.old }
     requires in_order { IsInOrder S.place_of request.now group (slots_of group) }
     requires up { request.now.up ≡ view.now.up }
-    ensures hand { IsHandOf (fabric_view fabric.now) hand.new }
-    ensures number { number_of hand.new ≡ number_of hand.old }
-    ensures board { seat_view hand.new.board ≡ seat_view hand.old.board }
+    ensures keeps { KeepsHand (fabric_view fabric.now) hand.old hand.new }
     ensures once { ReturnsOnce S.place_of request.now.shape hand.old hand.new }
     ensures no_room { IfNoRoom result (λ told. TellsNoRoom S.place_of S.content S.len_of S.faults request.now group told hand.old hand.new) }
     ensures back { GivesBack S.place_of request.now.shape (slots_of group) hand.old hand.new }

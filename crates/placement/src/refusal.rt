@@ -1,15 +1,9 @@
 //! Why a group was not placed.
 
-use domains::{DriveId, Place};
+use domains::Place;
 use lists::List;
+use slot_search::EmptyAt;
 use thiserror::Error;
-
-/// A drive whose pool had no free slot, and the number of turns that had passed there.
-#[derive(Clone, Copy, Debug, PartialEq, Eq)]
-pub struct EmptyAt {
-    pub drive: DriveId,
-    pub turn: u64,
-}
 
 /// Too few drives gave a slot: `got` of the `need` slots that the group wants.
 #[derive(Debug, Drop, Error)]

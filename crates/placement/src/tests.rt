@@ -26,7 +26,7 @@ fn all_up(shape: Shape) -> View {
     }
 }
 
-/// Draws so many slots for a new group, on any drive.
+/// Draws `count` slots for a new group, on any drive.
 fn draw_slots<R: Wait>(
     rt: &R,
     alloc: Global,

@@ -2,17 +2,16 @@
 
 ghost use Rattle.std.specs.Prelude.{◌≡◌, [], ℕ, List, OnOk, ◌+◌, ◌<◌, ◌≤◌, length};
 ghost use Rattle.std.specs.Result.{IsErrOf};
-ghost use Rattle.turn_cell.specs.Seats.{seat_view};
-ghost use Rattle.fabric.specs.Views.{IsHandOf, fabric_view, number_of};
-ghost use Rattle.placement.specs.Searches.{AsksClosed};
-ghost use Rattle.placement.specs.PartialGroups.{GoesOn, GoesOnFrom, GoesOnWith, HasNoRoom, IsInOrder, LosesOnTheWay, slots_of, slots_with};
+ghost use Rattle.fabric.specs.Views.{IsHandOf, fabric_view};
+ghost use Rattle.slot_search.specs.Searches.{AsksClosed, KeepsHand};
+ghost use Rattle.placement.specs.PartialGroups.{GoesOn, GoesOnFrom, GoesOnWith, HasNoRoom, IsAtStage, IsInOrder, LosesOnTheWay, slots_of, slots_with};
 
 use crate::partial_group::{PartialGroup, PlaceStop, draw_one, set_aside, write};
-use crate::request::Request;
 use fabric::{Fabric, Hand};
 use flex_io::{Fault, Slot};
 use held_slots::Held;
 use rs_codes::Units;
+use slot_search::Request;
 use std::sync::Wait;
 
 /// Writes the units whose slots wait, each to its slot. A slot that fails is retired, and another comes in its place.
@@ -29,14 +28,14 @@ pub(crate) fn write_all<S: Slot + Send + Drop, R: Wait>(
     requires unit { units.now.unit_length ≤ 262144 }
     requires many { length units.now.units ≡ request.now.count }
     requires in_order { IsInOrder S.place_of request.now group.old (slots_of group.old) }
+    requires stage { IsAtStage S.place_of request.now group.old (slots_of group.old) }
     requires full { length (slots_of group.old) ≡ request.now.count }
-    ensures hand { IsHandOf (fabric_view fabric.now) hand.new }
-    ensures number { number_of hand.new ≡ number_of hand.old }
-    ensures board { seat_view hand.new.board ≡ seat_view hand.old.board }
+    ensures keeps { KeepsHand (fabric_view fabric.now) hand.old hand.new }
     ensures in_order { IsInOrder S.place_of request.now group.new (slots_of group.new) }
     ensures once { (start : Hand S) → AsksClosed S.place_of request.now.shape group.old.search start hand.old
         → AsksClosed S.place_of request.now.shape group.new.search start hand.new }
     ensures full { OnOk result (length (slots_of group.new) ≡ request.now.count) }
+    ensures stage { OnOk result (IsAtStage S.place_of request.now group.new (slots_of group.new)) }
     ensures none_waits { OnOk result (group.new.waiting.items ≡ []) }
     ensures placed { OnOk result (GoesOn S.place_of S.content S.len_of S.faults request.now units.now.units group.old group.new hand.old hand.new) }
     ensures no_room { IsErrOf result PlaceStop.NoRoom → HasNoRoom S.place_of request.now group.new }
@@ -64,14 +63,14 @@ fn write_next<S: Slot + Send + Drop, R: Wait>(
     requires unit { units.now.unit_length ≤ 262144 }
     requires many { length units.now.units ≡ request.now.count }
     requires in_order { IsInOrder S.place_of request.now group.old (slots_with group.old held) }
+    requires stage { IsAtStage S.place_of request.now group.old (slots_with group.old held) }
     requires full { length (slots_with group.old held) ≡ request.now.count }
-    ensures hand { IsHandOf (fabric_view fabric.now) hand.new }
-    ensures number { number_of hand.new ≡ number_of hand.old }
-    ensures board { seat_view hand.new.board ≡ seat_view hand.old.board }
+    ensures keeps { KeepsHand (fabric_view fabric.now) hand.old hand.new }
     ensures in_order { IsInOrder S.place_of request.now group.new (slots_of group.new) }
     ensures once { (start : Hand S) → AsksClosed S.place_of request.now.shape group.old.search start hand.old
         → AsksClosed S.place_of request.now.shape group.new.search start hand.new }
     ensures full { OnOk result (length (slots_of group.new) ≡ request.now.count) }
+    ensures stage { OnOk result (IsAtStage S.place_of request.now group.new (slots_of group.new)) }
     ensures less { OnOk result (length group.new.waiting.items + length group.old.failed.items
         ≡ length group.old.waiting.items + length group.new.failed.items) }
     ensures placed { OnOk result (GoesOnFrom S.place_of S.content S.len_of S.faults request.now units.now.units held group.old group.new hand.old hand.new) }
@@ -107,14 +106,14 @@ fn replace<S: Slot + Send + Drop, R: Wait>(
     requires hand { IsHandOf (fabric_view fabric.now) hand.old }
     requires failed { 0 < S.faults held }
     requires in_order { IsInOrder S.place_of request.now group.old (slots_with group.old held) }
+    requires stage { IsAtStage S.place_of request.now group.old (slots_with group.old held) }
     requires full { length (slots_with group.old held) ≡ request.now.count }
-    ensures hand { IsHandOf (fabric_view fabric.now) hand.new }
-    ensures number { number_of hand.new ≡ number_of hand.old }
-    ensures board { seat_view hand.new.board ≡ seat_view hand.old.board }
+    ensures keeps { KeepsHand (fabric_view fabric.now) hand.old hand.new }
     ensures in_order { IsInOrder S.place_of request.now group.new (slots_of group.new) }
     ensures once { (start : Hand S) → AsksClosed S.place_of request.now.shape group.old.search start hand.old
         → AsksClosed S.place_of request.now.shape group.new.search start hand.new }
     ensures full { OnOk result (length (slots_of group.new) ≡ request.now.count) }
+    ensures stage { OnOk result (IsAtStage S.place_of request.now group.new (slots_of group.new)) }
     ensures less { OnOk result (length group.new.waiting.items + length group.old.failed.items
         ≡ length group.old.waiting.items + length group.new.failed.items) }
     ensures placed { OnOk result ((units : List (List ℕ))

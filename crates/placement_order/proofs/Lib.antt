@@ -16,3 +16,6 @@ pub mod PassedVisits
 pub mod PrefixDrives
 pub mod GroupChanges
 pub mod VisitsLeft
+pub mod AlikeRequests
+pub mod StageLemmas
+mod WorkedStages

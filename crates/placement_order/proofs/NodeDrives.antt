@@ -74,6 +74,6 @@ apart : (node : ℕ) (ns : List ℕ) → AreOnce ns → AreApart (map (at node) 
 apart node [] once = tt
 apart node (n ∷ ns) once = (false_from_ne_true _ (λ there. once.0 (number_of node ns (at node n) there)), apart node ns once.1)
 
--- the drives of a node are so many different ones
+-- the drives of a node are different ones, and this is their number
 pub drives_of-apart : (s : DrawRequest) (node : ℕ) → AreApart (drives_of s node)
 drives_of-apart s node = apart node _ (once_all s.shape.drives _)

@@ -103,7 +103,7 @@ on_next drawn (Some x) node =
 abbrev pub used_on : DrawRequest → ℕ → ℕ
 used_on s node = drives_on s.shape.drives node s.used
 
--- the node has given the first so many of its drives that are left
+-- the node has given the first n of its drives that are left
 pub record HasGiven (s : DrawRequest) (spent : Drive → Bool) (drawn : List Drive) (many node : ℕ) : Type 0 where
   pub drives : (d : Drive) → d.node ≡ node → is_in drawn d ≡ is_in (take many (left_on s spent node)) d
   pub few : on node drawn ≤ many

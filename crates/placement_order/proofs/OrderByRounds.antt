@@ -9,7 +9,7 @@ use Rattle.placement_order.proofs.CycleLemmas.{IsOneOf, AreOnce, once_all}
 use Rattle.placement_order.proofs.OrderComplete.{drawn_in-append}
 use Rattle.placement_order.proofs.NodeTurns.{HasGiven, takes_turn, other_visit, used_on, take_none}
 
--- each of the nodes has given its turns of so many rounds
+-- each of the nodes has given its turns of n rounds
 abbrev HaveGiven : DrawRequest → (Drive → Bool) → List Drive → ℕ → List ℕ → Type 0
 HaveGiven s spent drawn round nodes = (node : ℕ) → IsOneOf node nodes → HasGiven s spent drawn (round - used_on s node) node
 

@@ -35,7 +35,7 @@ open_before s spent drawn x d h =
     open_with (s.usable d && not (s.used d)) (not (spent d)) (is_in drawn d) (same_drive x d)
     (subst (λ b. ((s.usable d && not (s.used d)) && (not (spent d) && not b)) ≡ true) (is_in-push drawn x d) h)
 
--- the node has as many units as so many rounds ask for, or no open drive
+-- the node has as many units as n rounds ask for, or no open drive
 abbrev IsSettled : DrawRequest → (Drive → Bool) → List Drive → ℕ → ℕ → Type 0
 IsSettled s spent drawn round node =
     (d : Drive) → is_in (drives_of s node) d ≡ true → is_open s spent drawn d ≡ true → round ≤ units_on s drawn node

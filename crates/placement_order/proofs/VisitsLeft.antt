@@ -1,11 +1,11 @@
--- The visits that are left, and the drives that are left of a node, after so many.
+-- The visits that are left, and the drives that are left of a node, after some of each.
 use Rattle.std.proofs.Common.{◌≡◌, ℕ, suc, ◌+◌, ◌-◌, ◌/◌, ◌%◌, ◌<◌, ◌≤◌, Bool, true, false, cond, not, ◌&&◌, ◌||◌, List, [], ◌∷◌, ◌++◌, length, map, take, Option, Some, None, append-nil, append_assoc, refl, sym, ap, ◌∙◌, arith}
 use Rattle.std.proofs.Math.Seq.{take-append_seam}
 use Rattle.std.proofs.lemmas.Bool.{and_from, and_left, and_right, both_ways, not_from_false}
 use Rattle.domains.specs.Drive.{Drive}
 use Rattle.placement_order.specs.Order.{DrawRequest, cycle, drawn_in, drives_of, first_open, given_at, is_open, nodes_of, visits_after, visits_in, visits_of, with_drive}
 
--- the numbers of a cycle from the one after so many on
+-- the numbers of a cycle without the first n
 cycle_left : (n i count start : ℕ) → i < n → cycle (n - i) count (start + i) ≡ (1 + (start + i) % count) ∷ cycle (n - (i + 1)) count (start + (i + 1))
 cycle_left n i count start within =
     let left : n - i ≡ suc (n - (i + 1)) = omega (arith, within) in
@@ -17,7 +17,7 @@ cycle_end n i count start past =
     let none : n - i ≡ 0 = omega (arith, past) in
     ap (λ m. cycle m count start) none
 
--- the nodes from the one after so many on
+-- the nodes without the first n
 abbrev pub nodes_left : DrawRequest → ℕ → List ℕ
 nodes_left s i = cycle (s.shape.nodes - i) s.shape.nodes (s.spin + i)
 
@@ -33,7 +33,7 @@ nodes_left-next s i within = cycle_left s.shape.nodes i s.shape.nodes s.spin wit
 pub nodes_left-end : (s : DrawRequest) (i : ℕ) → s.shape.nodes ≤ i → nodes_left s i ≡ []
 nodes_left-end s i past = cycle_end s.shape.nodes i s.shape.nodes (s.spin + i) past
 
--- the drives of a node from the one after so many on
+-- the drives of a node without the first n
 abbrev pub drives_left : DrawRequest → ℕ → ℕ → List Drive
 drives_left s node i =
     map (λ drive. record { node = node; drive = drive }) (cycle (s.shape.drives - i) s.shape.drives (s.spin / s.shape.nodes + i))
@@ -56,7 +56,7 @@ pub drives_left-end : (s : DrawRequest) (node i : ℕ) → s.shape.drives ≤ i 
 drives_left-end s node i past =
     ap (λ ns. map (λ (drive : ℕ). let made : Drive = record { node = node; drive = drive } in made) ns) (cycle_end s.shape.drives i s.shape.drives (s.spin / s.shape.nodes + i) past)
 
--- the visits of the rounds after so many
+-- the visits of the rounds without the first n
 abbrev pub visits_left : DrawRequest → ℕ → List (ℕ × ℕ)
 visits_left s round = visits_after round (s.level.k - round) (nodes_of s)
 
@@ -82,7 +82,7 @@ longer drawn None = ([], sym (append-nil drawn))
 longer drawn (Some d) = (d ∷ [], refl)
 
 -- visits add behind the drives that were drawn before
-begins : (visits : List (ℕ × ℕ)) (s : DrawRequest) (spent : Drive → Bool) (drawn : List Drive) → (more : List Drive) × (drawn_in visits s spent drawn ≡ drawn ++ more)
+pub begins : (visits : List (ℕ × ℕ)) (s : DrawRequest) (spent : Drive → Bool) (drawn : List Drive) → (more : List Drive) × (drawn_in visits s spent drawn ≡ drawn ++ more)
 begins [] s spent drawn = ([], sym (append-nil drawn))
 begins (visit ∷ visits) s spent drawn =
     let one = longer drawn (given_at s spent drawn visit) in

@@ -43,7 +43,7 @@ first_open s spent drawn (d ∷ ds) = if is_open s spent drawn d then Some d els
 abbrev pub visits_in : ℕ → List ℕ → List (ℕ × ℕ)
 visits_in round nodes = map (λ node. (round, node)) nodes
 
--- the visits of so many rounds, from the round after this one
+-- the visits of n rounds, from the round after this one
 abbrev pub visits_after : ℕ → ℕ → List ℕ → List (ℕ × ℕ)
 visits_after done zero nodes = []
 visits_after done (suc left) nodes = visits_in (suc done) nodes ++ visits_after (suc done) left nodes

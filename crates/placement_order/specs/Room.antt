@@ -19,7 +19,7 @@ room_left_up_to (suc n) s spent =
 abbrev pub room_left : DrawRequest → (Drive → Bool) → ℕ
 room_left s spent = room_left_up_to s.shape.nodes s spent
 
--- how many drives of the first n nodes are marked, in a cluster of so many drives a node
+-- how many drives of the first n nodes are marked, in a cluster with this number of drives a node
 abbrev pub marked_up_to : ℕ → ℕ → (Drive → Bool) → ℕ
 marked_up_to zero drives marked = 0
 marked_up_to (suc n) drives marked = marked_up_to n drives marked + drives_on drives (suc n) marked

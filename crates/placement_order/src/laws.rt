@@ -1,6 +1,7 @@
 //! The laws of the order of placement: each function's contract is one, and calling it costs nothing.
 
 ghost use Rattle.placement_order.specs.OrderLaws.{FullGroupsFillTheRoom, NewGroupsFindTheRoom, OrderFillsTheRoom, OrderIsComplete, OrderMayGive, PrefixesAreWhole, PrefixesKeepTheirDrives, ReplacementsAreOfThePrefix, RoomIsWithinTheLevel, SpentDrivesMakeNoRoom, UsedDrivesTakeTheirRoom, WholePrefixesAreTheOrder};
+ghost use Rattle.placement_order.specs.Stages.{StagesStay};
 ghost use Rattle.placement_order.specs.Turns.{OrderIsByTurns};
 
 /// The drives of the order, and those of any prefix of it, may all give slots to one group: no drive comes twice, and no
@@ -69,4 +70,10 @@ pub fn replacements_are_of_the_prefix()
 /// n different drives of the first n of the order are the first n of the order.
 pub fn whole_prefixes_are_the_order()
     ensures { WholePrefixesAreTheOrder }
+{}
+
+/// How far a group comes is settled by the drives that it tries: if more drives are empty, but none that the group has and
+/// none whose slot failed, then it has the same drives by position, and found the same ones empty in the same order.
+pub fn stages_stay()
+    ensures { StagesStay }
 {}

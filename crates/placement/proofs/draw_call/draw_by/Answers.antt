@@ -5,11 +5,13 @@ use Rattle.domains.specs.Drive.{is_in}
 use Rattle.domains.specs.DriveSet.{has}
 use Rattle.placement_order.proofs.GroupChanges.{is_left-parts}
 use Rattle.fabric.specs.Views.{fabric_view}
-use Rattle.placement.specs.Draws.{AreOfCluster, Draws, ReturnsOnce, drives_at}
-use Rattle.placement.specs.Searches.{request_of}
+use Rattle.slot_search.specs.HandSeats.{AreOfCluster, ReturnsOnce, drives_at}
+use Rattle.placement.specs.Draws.{Draws}
+use Rattle.slot_search.specs.Searches.{request_of}
 use Rattle.placement.proofs.GroupRefused.{draws-lost, loses-none}
-use Rattle.placement.proofs.SearchEnd.{draws, drew, may_give, no_room}
-use Rattle.placement.proofs.SeatTurns.{tries-none, tries-once}
+use Rattle.slot_search.proofs.SearchEnd.{drew, may_give}
+use Rattle.placement.proofs.DrawEnd.{draws, no_room}
+use Rattle.slot_search.proofs.SeatTurns.{tries-none, tries-once}
 use Rattle.placement.proofs.draw_call.draw_by.Goals as goal
 
 pub returns-then-len-from-clause-ok : goal.returns-then-len-from-clause-ok

@@ -2,13 +2,13 @@
 use Rattle.std.proofs.Common.{inl, refl, sym, subst, rules}
 use Rattle.std.specs.Result.{IsErrOf}
 use Rattle.placement.specs.PlacedGroups.{FindsNoPlace, Places}
-use Rattle.placement.specs.Searches.{request_of}
+use Rattle.slot_search.specs.Searches.{request_of}
 use Rattle.placement.proofs.GroupDrawn.{all-placed}
 use Rattle.placement.proofs.GroupRefused.{if_no_memory, if_no_room, loses-none, loses-slots, none-lost}
 use Rattle.placement.specs.Draws.{LosesSlots}
 use Rattle.placement.specs.PartialGroups.{TellsNoRoom, slots_of}
 use Rattle.placement.specs.declared.partial_group.PlaceStop.TheVariants.{NoMemory, NoRoom}
-use Rattle.placement.proofs.SeatTurns.{tries-none, tries-once}
+use Rattle.slot_search.proofs.SeatTurns.{tries-none, tries-once}
 use Rattle.placement.proofs.place_call.place_by.Goals as goal
 
 pub returns-in-Ok-place_all-clause-ok : goal.returns-in-Ok-place_all-clause-ok
@@ -20,7 +20,7 @@ returns-in-Ok-place_all-clause-ok g c =
     let told = c.in-Ok-place_all.ensures in
     subst (λ slots. Places place_of content len_of faults (request_of c.args.request.now) c.args.units.now.units slots c.args.hand.now c.place_all.new.hand) (sym c.finish.ensures)
     (all-placed place_of content len_of faults c.args.request.now c.args.units.now.units c.place_all.new.group c.args.hand.now c.place_all.new.hand
-    c.requires.many told.in_order told.full told.none_waits told.placed)
+    c.requires.many told.in_order told.stage told.full told.none_waits told.placed)
 
 pub returns-in-Err-NoRoom-clause-no_room : goal.returns-in-Err-NoRoom-clause-no_room
 returns-in-Err-NoRoom-clause-no_room g c =

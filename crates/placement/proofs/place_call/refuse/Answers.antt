@@ -1,14 +1,14 @@
 -- The slots of the group go back, and the refusal tells why.
-use Rattle.std.proofs.Common.{◌≡◌, true, false, ◌++◌, reverse, length, refl, sym, ap, subst, ◌∙◌, arith}
+use Rattle.std.proofs.Common.{◌≡◌, true, false, length, refl, sym, ap, subst, ◌∙◌, arith}
 use Rattle.std.proofs.lemmas.Bool.{and_parts}
 use Rattle.domains.specs.Drive.{AreApart, Drive, is_in}
 use Rattle.domains.specs.DriveSet.{has}
 use Rattle.domains.specs.Shape.{is_of}
 use Rattle.fabric.specs.Views.{fabric_view, seat_on}
 use Rattle.placement_order.proofs.GroupChanges.{is_left-parts}
-use Rattle.placement.specs.Draws.{AreOfCluster, ReturnsOnce, drives_of_all}
+use Rattle.slot_search.specs.HandSeats.{AreOfCluster, ReturnsOnce, drives_of_all}
 use Rattle.placement.specs.PlacedGroups.{spent_by}
-use Rattle.placement.specs.Searches.{GivesAllBack, request_of}
+use Rattle.slot_search.specs.Searches.{GivesAllBack, request_of}
 use Rattle.placement.proofs.GroupRefused.{gives-back-as, tells_no_room}
 use Rattle.placement.proofs.place_call.refuse.Goals as goal
 

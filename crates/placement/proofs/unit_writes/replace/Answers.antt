@@ -16,7 +16,7 @@ returns-else-draw_one-clause-no_room g c stopped =
     let full = c.requires.full in
     let now = length-append c.draw_one.new.group.written.items (reverse c.draw_one.new.group.waiting.items) in
     let was = length-append p.written.items (c.args.held ∷ reverse p.waiting.items) in
-    record { short = omega (arith, written, waiting, full, now, was); none = none.1 }
+    record { stage = c.draw_one.ensures.stage; short = omega (arith, written, waiting, full, now, was); none = none.1 }
 
 pub returns-else-draw_one-clause-so_far : goal.returns-else-draw_one-clause-so_far
 returns-else-draw_one-clause-so_far g c stopped units start drawn same rose at placed =

@@ -4,8 +4,10 @@ use Rattle.std.specs.Result.{IsErrOf}
 use Rattle.std.proofs.lemmas.List.{length_push}
 use Rattle.domains.specs.DriveSet.{has}
 use Rattle.placement.specs.declared.partial_group.PlaceStop.TheVariants.{NoMemory, NoRoom}
-use Rattle.placement.proofs.NextUnit.{popped-at, popped-in_order, popped-placed, stayed-placed}
+use Rattle.placement.proofs.NextUnit.{popped-both, popped-in_order, popped-stage, stayed-placed}
 use Rattle.placement_order.proofs.MarkedDrives.{marked_up_to-le}
+use Rattle.fabric.specs.Views.{fabric_view}
+use Rattle.slot_search.proofs.SeatTurns.{keeps-twice}
 use Rattle.placement.proofs.unit_writes.write_all.Goals as goal
 
 pub write_next-requires-clause-in_order : goal.write_next-requires-clause-in_order
@@ -13,6 +15,11 @@ write_next-requires-clause-in_order g c κs bounds =
     let p = c.loop-held.group in
     popped-in_order g.S.Slot.place_of c.args.request.now p (record p { waiting = c.pop.new.self }) c.in-Some.held c.in-Some.ensures.items
     c.pop.ensures.capacity c.loop-held.invariant.in_order
+
+pub write_next-requires-clause-stage : goal.write_next-requires-clause-stage
+write_next-requires-clause-stage g c κs bounds =
+    let p = c.loop-held.group in
+    popped-stage g.S.Slot.place_of c.args.request.now p (record p { waiting = c.pop.new.self }) c.in-Some.held c.in-Some.ensures.items c.loop-held.invariant.stage
 
 pub loop-held-smaller : goal.loop-held-smaller
 loop-held-smaller g c =
@@ -37,17 +44,15 @@ loop-held-preserved g c =
     let units = c.args.units.now.units in
     let p = c.loop-held.group in
     record {
-      hand = c.write_next.ensures.hand;
-      number = c.write_next.ensures.number ∙ c.loop-held.invariant.number;
-      board = c.write_next.ensures.board ∙ c.loop-held.invariant.board;
+      keeps = keeps-twice (fabric_view c.args.fabric.now) c.args.hand.now c.loop-held.hand c.write_next.new.hand c.loop-held.invariant.keeps c.write_next.ensures.keeps;
       in_order = c.write_next.ensures.in_order;
+      stage = c.in_ok-write_next.ensures.stage;
       full = c.in_ok-write_next.ensures.full;
       once = λ start asked. c.write_next.ensures.once start (c.loop-held.invariant.once start asked);
       placed = λ start placed.
           let before = c.loop-held.invariant.placed start placed in
-          c.in_ok-write_next.ensures.placed start
-          (popped-at place_of content len_of faults t units start c.loop-held.hand p (record p { waiting = c.pop.new.self }) c.in-Some.held c.in-Some.ensures.items before)
-          (popped-placed place_of content len_of faults t units start c.loop-held.hand p (record p { waiting = c.pop.new.self }) c.in-Some.held c.in-Some.ensures.items before);
+          let both = popped-both place_of content len_of faults t units start c.loop-held.hand p (record p { waiting = c.pop.new.self }) c.in-Some.held c.in-Some.ensures.items before in
+          c.in_ok-write_next.ensures.placed start both.0 both.1;
     }
 
 pub returns-in_err-write_next-clause-so_far : goal.returns-in_err-write_next-clause-so_far
@@ -61,17 +66,16 @@ returns-in_err-write_next-clause-so_far g c stopped start placed =
     let p = c.loop-held.group in
     let told : IsErrOf c.write_next.result NoRoom = search rules in
     let before = c.loop-held.invariant.placed start placed in
-    c.write_next.ensures.so_far told start
-    (popped-at place_of content len_of faults t units start c.loop-held.hand p (record p { waiting = c.pop.new.self }) c.in-Some.held c.in-Some.ensures.items before)
-    (popped-placed place_of content len_of faults t units start c.loop-held.hand p (record p { waiting = c.pop.new.self }) c.in-Some.held c.in-Some.ensures.items before)
+    let both = popped-both place_of content len_of faults t units start c.loop-held.hand p (record p { waiting = c.pop.new.self }) c.in-Some.held c.in-Some.ensures.items before in
+    c.write_next.ensures.so_far told start both.0 both.1
 
 pub returns-in_err-write_next-clause-lost : goal.returns-in_err-write_next-clause-lost
 returns-in_err-write_next-clause-lost g c stopped start placed =
     let told : IsErrOf c.write_next.result NoMemory = search rules in
     let before = c.loop-held.invariant.placed start placed in
     c.write_next.ensures.lost told start
-    (popped-placed g.S.Slot.place_of g.S.Slot.content g.S.Slot.len_of g.S.Slot.faults c.args.request.now c.args.units.now.units start c.loop-held.hand c.loop-held.group
-    (record c.loop-held.group { waiting = c.pop.new.self }) c.in-Some.held c.in-Some.ensures.items before)
+    (popped-both g.S.Slot.place_of g.S.Slot.content g.S.Slot.len_of g.S.Slot.faults c.args.request.now c.args.units.now.units start c.loop-held.hand c.loop-held.group
+    (record c.loop-held.group { waiting = c.pop.new.self }) c.in-Some.held c.in-Some.ensures.items before).1
 
 pub returns-clause-placed : goal.returns-clause-placed
 returns-clause-placed g c start placed =

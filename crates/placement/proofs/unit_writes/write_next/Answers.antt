@@ -6,7 +6,7 @@ use Rattle.flex_io.specs.Faults.{HasRisen}
 use Rattle.flex_io.specs.Slots.{Holds}
 use Rattle.galois.specs.Codeword.{unit_at}
 use Rattle.placement.specs.PartialGroups.{GoesOnWith}
-use Rattle.placement.proofs.NextUnit.{changed-in_order, changed-placed, waiting-in_order, written-in_order, written-placed}
+use Rattle.placement.proofs.NextUnit.{changed-in_order, changed-placed, changed-stage, waiting-in_order, written-in_order, written-placed, written-stage}
 use Rattle.placement.proofs.SlotFailed.{gone-place}
 use Rattle.placement.proofs.SlotRetired.{waits-lost}
 use Rattle.placement.proofs.unit_writes.write_next.Goals as goal
@@ -27,6 +27,16 @@ pub replace-requires-clause-in_order : goal.replace-requires-clause-in_order
 replace-requires-clause-in_order g c κs bounds =
     changed-in_order g.S.Slot.place_of c.args.request.now c.args.group.now c.args.group.now c.args.held c.in-Err-Failed-default.held
     c.in-Err-Failed-default.ensures.kept c.requires.in_order
+
+pub replace-requires-clause-stage : goal.replace-requires-clause-stage
+replace-requires-clause-stage g c κs bounds =
+    changed-stage g.S.Slot.place_of c.args.request.now c.args.group.now c.args.group.now c.args.held c.in-Err-Failed-default.held
+    c.in-Err-Failed-default.ensures.kept c.requires.in_order c.requires.stage
+
+pub returns-in-Ok-clause-stage : goal.returns-in-Ok-clause-stage
+returns-in-Ok-clause-stage g c =
+    written-stage g.S.Slot.place_of c.args.request.now c.args.group.now (record c.args.group.now { written = c.push_reserved.new.self }) c.args.held c.in-Ok.held c.in-Ok.ensures.place
+    c.requires.in_order c.push_reserved.ensures.items c.requires.stage
 
 pub returns-in-Ok-clause-in_order : goal.returns-in-Ok-clause-in_order
 returns-in-Ok-clause-in_order g c =

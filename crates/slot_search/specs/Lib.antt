@@ -1,0 +1,2 @@
+pub mod HandSeats
+pub mod Searches
