@@ -11,11 +11,13 @@ use Rattle.job_rules.specs.Kinds.{code_of}
 use Rattle.job_rules.specs.declared.kind.JobKind.{JobKind}
 use Rattle.checkpoints.specs.declared.checkpoint.ItemSaved.{ItemSaved}
 use Rattle.checkpoints.specs.declared.checkpoint.JobSaved.{JobSaved}
-use Rattle.checkpoints.specs.declared.fault.Broken.{Broken}
+use Rattle.field_readers.specs.declared.fault.Broken.{Broken}
+use Rattle.checkpoints.specs.declared.fault.CheckpointRule.{CheckpointRule}
 use Rattle.checkpoints.specs.declared.fault.CheckpointRule.TheVariants as rule
 use Rattle.checkpoints.specs.Saved.{drives_of, flag}
-use Rattle.checkpoints.specs.Reading.{RawJob, RawJobs, RawTail, above, byte, drive_at, each, item_at, job_at, jobs_at, phase_count, raw_drive, raw_item, raw_job, stays, tail_at, this_drive, word}
-use Rattle.checkpoints.proofs.Readers.{AreSo, IsReader, IsWithin, both_reader, byte_reader, each_reader, texts, wide16, wide32, word_reader}
+use Rattle.field_readers.specs.FieldReaders.{byte, each, word}
+use Rattle.checkpoints.specs.CheckpointFields.{RawJob, RawJobs, RawTail, above, drive_at, item_at, job_at, jobs_at, phase_count, raw_drive, raw_item, raw_job, stays, tail_at, this_drive}
+use Rattle.field_readers.proofs.Readers.{AreSo, IsReader, IsWithin, both_reader, byte_reader, each_reader, texts, wide16, wide32, word_reader}
 use Rattle.checkpoints.proofs.JobReaders.{TailFits, drive_set_is, drives_reader, items_reader, tail_reader, tail_text}
 
 abbrev pub job_text : RawJob → List ℕ
@@ -113,6 +115,6 @@ checkpoint_is bytes mark r1 format r2 started r3 count r4 jobs r5 e1 e2 e3 e4 e5
     let count_is : length jobs ≡ count = sym (length-map jobs raw_job) ∙ many.0 in
     let so : jobs_at bytes ≡ Ok ((mark, (format, (started, (count, map raw_job jobs)))), r5) = rw (e1, e2, e3, e4, e5) refl in
     so
-    ∙ ap (λ (m : ℕ). let x : RawJobs × List ℕ = ((m, (format, (started, (count, map raw_job jobs)))), r5) in let made : Result (RawJobs × List ℕ) Broken = Ok x in made) (sym mark_is)
-    ∙ ap (λ (m : ℕ). let x : RawJobs × List ℕ = ((0x464A4350, (m, (started, (count, map raw_job jobs)))), r5) in let made : Result (RawJobs × List ℕ) Broken = Ok x in made) (sym format_is)
-    ∙ ap (λ (m : ℕ). let x : RawJobs × List ℕ = ((0x464A4350, (1, (started, (m, map raw_job jobs)))), r5) in let made : Result (RawJobs × List ℕ) Broken = Ok x in made) (sym count_is)
+    ∙ ap (λ (m : ℕ). let x : RawJobs × List ℕ = ((m, (format, (started, (count, map raw_job jobs)))), r5) in let made : Result (RawJobs × List ℕ) (Broken CheckpointRule) = Ok x in made) (sym mark_is)
+    ∙ ap (λ (m : ℕ). let x : RawJobs × List ℕ = ((0x464A4350, (m, (started, (count, map raw_job jobs)))), r5) in let made : Result (RawJobs × List ℕ) (Broken CheckpointRule) = Ok x in made) (sym format_is)
+    ∙ ap (λ (m : ℕ). let x : RawJobs × List ℕ = ((0x464A4350, (1, (started, (m, map raw_job jobs)))), r5) in let made : Result (RawJobs × List ℕ) (Broken CheckpointRule) = Ok x in made) (sym count_is)

@@ -6,13 +6,15 @@ use Rattle.std.specs.Int.{w16, to_be_bytes}
 use Rattle.domains.specs.Drive.{Drive, IsDrive, same_drive}
 use Rattle.domains.specs.DriveSet.{has}
 use Rattle.domains.specs.declared.drive_set.DriveSet.{DriveSet}
-use Rattle.checkpoints.specs.declared.fault.Broken.{Broken}
+use Rattle.field_readers.specs.declared.fault.Broken.{Broken}
+use Rattle.checkpoints.specs.declared.fault.CheckpointRule.{CheckpointRule}
 use Rattle.checkpoints.specs.declared.fault.CheckpointRule.TheVariants as rule
 use Rattle.checkpoints.specs.Saved.{drives_of}
-use Rattle.checkpoints.specs.Reading.{RawTail, above, byte, drive_at, each, item_at, next_at, raw_drive, stays, tail_at, this_drive, word}
+use Rattle.field_readers.specs.FieldReaders.{byte, each, word}
+use Rattle.checkpoints.specs.CheckpointFields.{RawTail, above, drive_at, item_at, next_at, raw_drive, stays, tail_at, this_drive}
 use Rattle.checkpoints.proofs.AllDrives.{AllAbove, IsAscending, rank}
 use Rattle.checkpoints.proofs.SetOfDrives.{drives_of-set}
-use Rattle.checkpoints.proofs.Readers.{AreSo, EachFits, IsBytes, IsReader, IsWithin, Takes, both_reader, byte_reader, each_reader, ok_is, texts, wide16, word_reader}
+use Rattle.field_readers.proofs.Readers.{AreSo, EachFits, IsBytes, IsReader, IsWithin, Takes, both_reader, byte_reader, each_reader, ok_is, texts, wide16, word_reader}
 
 -- ---- drives
 
@@ -115,7 +117,7 @@ NextFits (suc (suc s)) n = n ≡ 0
 no_next : (s : ℕ) → IsReader (next_at (suc (suc s))) (next_text (suc (suc s))) (NextFits (suc (suc s)))
 no_next s = record { fits = fit; takes = taken; again = λ n rest none. ap (λ (k : ℕ). ok_pair k rest) (sym none) }
   where
-    ok_pair : ℕ → List ℕ → Result (ℕ × List ℕ) Broken
+    ok_pair : ℕ → List ℕ → Result (ℕ × List ℕ) (Broken CheckpointRule)
     ok_pair k rest = Ok (k, rest)
 
     fit : (bytes : List ℕ) (x : ℕ × List ℕ) → ok_pair 0 bytes ≡ Ok x → x.0 ≡ 0

@@ -4,7 +4,7 @@ use Rattle.job_rules.specs.Kinds.{code_of, phase_in, phases_of}
 use Rattle.job_rules.specs.declared.kind.JobKind.{JobKind}
 use Rattle.job_rules.specs.declared.kind.JobKind.TheVariants.{FlexProtect, AutoBalance, SetProtectPlus, Collect, MultiScan, Upgrade, IntegrityScan, MediaScan, SmartPools, SyncCopy}
 use Rattle.job_rules.specs.declared.phase.Phase.{Phase}
-use Rattle.checkpoints.specs.Reading.{phase_count}
+use Rattle.checkpoints.specs.CheckpointFields.{phase_count}
 
 -- each number below ten is the code of a kind
 pub none_has : (n : ℕ) → n < 10 → ((kind : JobKind) → code_of kind ≡ n → ⊥) → ⊥

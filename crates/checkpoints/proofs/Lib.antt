@@ -1,8 +1,6 @@
-pub mod EachInTurn
 pub mod AllDrives
 pub mod KindCodes
 pub mod SetOfDrives
-pub mod Readers
 pub mod JobReaders
 pub mod CheckpointReader
 pub mod Spelled

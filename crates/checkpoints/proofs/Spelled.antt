@@ -13,15 +13,15 @@ use Rattle.checkpoints.specs.declared.checkpoint.Checkpoint.{Checkpoint}
 use Rattle.checkpoints.specs.declared.checkpoint.ItemSaved.{ItemSaved}
 use Rattle.checkpoints.specs.declared.checkpoint.ItemSaved.TheVariants.{ToDo, Out, Whole, Lost, Short}
 use Rattle.checkpoints.specs.declared.checkpoint.JobSaved.{JobSaved}
-use Rattle.checkpoints.specs.declared.fault.Broken.{Broken}
 use Rattle.checkpoints.specs.declared.fault.CheckpointFault.{CheckpointFault}
 use Rattle.checkpoints.specs.declared.fault.CheckpointRule.TheVariants as rule
 use Rattle.checkpoints.specs.Saved.{AreJobs, AreShort, IsCheckpoint, IsItem, IsJob, checkpoint_bytes, drives_bytes, drives_of, flag, item_bytes, items_bytes, job_bytes, jobs_bytes}
-use Rattle.checkpoints.specs.Reading.{Answers, RawJobs, above, all_of, broken, jobs_at, phase_count, raw_drive, raw_item, raw_job, raw_jobs, raw_tail, stays, this_drive}
+use Rattle.field_readers.specs.FieldReaders.{broken}
+use Rattle.checkpoints.specs.CheckpointFields.{Answers, above, all_of, jobs_at, phase_count, raw_drive, raw_item, raw_job, raw_jobs, raw_tail, stays, this_drive}
 use Rattle.checkpoints.proofs.KindCodes.{below-phase, count-phases, phase-below}
 use Rattle.checkpoints.proofs.SetOfDrives.{ascending-drives_of, drive-drives_of}
 use Rattle.checkpoints.proofs.AllDrives.{AllAbove}
-use Rattle.checkpoints.proofs.Readers.{EachFits, IsBytes, IsWithin, bind_ok, ok_is, texts}
+use Rattle.field_readers.proofs.Readers.{EachFits, IsBytes, IsWithin, bind_ok, test_ok, texts}
 use Rattle.checkpoints.proofs.JobReaders.{DriveFits, ItemFits, TailFits, each_drive_fits, drive_text, item_text}
 use Rattle.checkpoints.proofs.CheckpointReader.{JobFits, JobsFit, job_text, jobs_reader, jobs_text}
 
@@ -180,17 +180,13 @@ pub is_found : (bytes : List ℕ) (c : Checkpoint) → IsBytes bytes → all_of 
 unfolding all_of
 is_found bytes c are e =
     let a = bind_ok (jobs_at bytes) (λ jobs. cond (eqb (length jobs.1) 0) (Ok jobs.0) (Err (broken rule.Left jobs.1))) (raw_jobs c) e in
-    let g = ended_ok (eqb (length a.0.1) 0) (broken rule.Left a.0.1) a.0.0 (raw_jobs c) a.2 in
+    let g = test_ok (eqb (length a.0.1) 0) (broken rule.Left a.0.1) a.0.0 (raw_jobs c) a.2 in
     let fits = jobs_reader.fits bytes a.0 a.1 in
     let takes = jobs_reader.takes bytes a.0 are a.1 in
     let nothing : a.0.1 ≡ [] = nil_from_length a.0.1 (eqb-true _ _ g.0) in (
       fit_checkpoint c (subst JobsFit g.1 fits),
       takes.parts ∙ ap (λ (rest : List ℕ). jobs_text a.0.0 ++ rest) nothing ∙ append-nil (jobs_text a.0.0) ∙ ap jobs_text g.1 ∙ checkpoint_spelled c,
     )
-  where
-    ended_ok : (t : Bool) (d : Broken) (x y : RawJobs) → cond t (Ok x) (Err d) ≡ Ok y → (t ≡ true) × (x ≡ y)
-    ended_ok true d x y e = (refl, ok_is x y e)
-    ended_ok false d x y e = absurd cc
 
 pub is_read : (c : Checkpoint) → IsCheckpoint c → all_of (checkpoint_bytes c) ≡ Ok (raw_jobs c)
 unfolding all_of

@@ -1,2 +1,2 @@
 pub mod Saved
-pub mod Reading
+pub mod CheckpointFields

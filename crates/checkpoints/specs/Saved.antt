@@ -11,12 +11,12 @@ use Rattle.checkpoints.specs.declared.checkpoint.ItemSaved.{ItemSaved}
 use Rattle.checkpoints.specs.declared.checkpoint.ItemSaved.TheVariants.{ToDo, Out, Whole, Lost, Short}
 use Rattle.checkpoints.specs.declared.checkpoint.JobSaved.{JobSaved}
 
--- the first so many drives of a node
+-- the first n drives of a node
 abbrev pub drives_on : ℕ → ℕ → List Drive
 drives_on node zero = []
 drives_on node (suc d) = drives_on node d ++ record { node = node; drive = suc d } ∷ []
 
--- the drives of the first so many nodes
+-- the drives of the first n nodes
 abbrev pub drives_up_to : ℕ → List Drive
 drives_up_to zero = []
 drives_up_to (suc n) = drives_up_to n ++ drives_on (suc n) 16
@@ -77,7 +77,7 @@ IsItem Whole = Unit {0}
 IsItem Lost = Unit {0}
 IsItem Short = Unit {0}
 
--- the job keeps the rules of the format, where so many jobs were started and its number is at least this one
+-- the job keeps the rules of the format, when `started` jobs were started; its number is at least `least`
 pub record IsJob (started least : ℕ) (j : JobSaved) : Type 0 where
   pub job : least ≤ j.job.number
   pub number : j.job.number < 65536

@@ -4,7 +4,6 @@
 mod checkpoint;
 mod drives;
 mod fault;
-mod fields;
 mod reading;
 mod writing;
 

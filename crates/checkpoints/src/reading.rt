@@ -4,13 +4,14 @@ ghost use Rattle.std.specs.Prelude.{◌≡◌, ◌<◌, ◌^◌, ◌≤◌, ◌-
 ghost use Rattle.domains.specs.Drive.{IsDrive};
 ghost use Rattle.job_rules.specs.Kinds.{code_of};
 ghost use Rattle.checkpoints.specs.Saved.{IsCheckpoint, checkpoint_bytes};
-ghost use Rattle.checkpoints.specs.Reading.{Answers, Gives, all_of, above, drive_at, each, item_at, job_at, jobs_at, stays, phase_count, raw_drive, raw_item, raw_job, raw_jobs, tail_at, tail_view, this_drive};
+ghost use Rattle.field_readers.specs.FieldReaders.{Gives, each};
+ghost use Rattle.checkpoints.specs.CheckpointFields.{Answers, all_of, above, bad_at, drive_at, item_at, job_at, jobs_at, stays, phase_count, raw_drive, raw_item, raw_job, raw_jobs, tail_at, tail_view, this_drive};
 
 use crate::checkpoint::{Checkpoint, ItemSaved, JobSaved};
 use crate::drives::set_of;
-use crate::fault::{BadCheckpoint, CheckpointFault, CheckpointRule, Fault};
-use crate::fields::{broken, byte_at, u16_at, u32_at};
+use crate::fault::{BadCheckpoint, CheckpointFault, CheckpointRule};
 use domains::{DriveId, DriveSet};
+use field_readers::{Broken, ReadFault, broken, byte_at, u16_at, u32_at};
 use job_rules::{JobId, JobKind};
 use lists::List;
 use std::alloc::Global;
@@ -23,8 +24,8 @@ struct Tail {
 }
 
 /// An item.
-#[tactic(auto, unfolding(crate::specs::Reading::item_at))]
-fn item_of(bytes: &[u8]) -> Result<(ItemSaved, &[u8]), Fault>
+#[tactic(auto, unfolding(crate::specs::CheckpointFields::item_at))]
+fn item_of(bytes: &[u8]) -> Result<(ItemSaved, &[u8]), ReadFault<CheckpointRule>>
     ensures { Gives (λ x. (raw_item x.0, x.1.now)) result (item_at 0 bytes.now) }
 {
     let (state, rest) = byte_at(bytes, CheckpointRule::ItemState, 0..5)?;
@@ -45,8 +46,8 @@ fn item_of(bytes: &[u8]) -> Result<(ItemSaved, &[u8]), Fault>
 }
 
 /// A drive behind the one before.
-#[tactic(auto, unfolding(crate::specs::Reading::drive_at))]
-fn drive_of(before: (u8, u8), bytes: &[u8]) -> Result<(u8, u8, &[u8]), Fault>
+#[tactic(auto, unfolding(crate::specs::CheckpointFields::drive_at))]
+fn drive_of(before: (u8, u8), bytes: &[u8]) -> Result<(u8, u8, &[u8]), ReadFault<CheckpointRule>>
     ensures read { Gives (λ x. ((x.0, x.1), x.2.now)) result (drive_at (before.0, before.1) bytes.now) }
     ensures drive { IfOk result (λ x. IsDrive (record { node = x.0; drive = x.1 })) }
 {
@@ -60,8 +61,12 @@ fn drive_of(before: (u8, u8), bytes: &[u8]) -> Result<(u8, u8, &[u8]), Fault>
     Ok((node, drive, rest))
 }
 
-/// So many items.
-fn items_of(alloc: Global, count: u16, bytes: &[u8]) -> Result<(Vec<ItemSaved>, &[u8]), Fault>
+/// `count` items.
+fn items_of(
+    alloc: Global,
+    count: u16,
+    bytes: &[u8],
+) -> Result<(Vec<ItemSaved>, &[u8]), ReadFault<CheckpointRule>>
     ensures { Gives (λ x. (map raw_item x.0.items, x.1.now)) result (each item_at stays count 0 bytes.now) }
 {
     let mut items = Vec::new(alloc);
@@ -74,8 +79,12 @@ fn items_of(alloc: Global, count: u16, bytes: &[u8]) -> Result<(Vec<ItemSaved>, 
     Ok((items, rest))
 }
 
-/// So many drives, ascending.
-fn drives_of(alloc: Global, count: u8, bytes: &[u8]) -> Result<(Vec<DriveId>, &[u8]), Fault>
+/// `count` drives, ascending.
+fn drives_of(
+    alloc: Global,
+    count: u8,
+    bytes: &[u8],
+) -> Result<(Vec<DriveId>, &[u8]), ReadFault<CheckpointRule>>
     ensures { Gives (λ x. (map raw_drive x.0.items, x.1.now)) result (each drive_at this_drive count (0, 0) bytes.now) }
 {
     let mut drives: Vec<DriveId> = Vec::new(alloc);
@@ -91,8 +100,8 @@ fn drives_of(alloc: Global, count: u8, bytes: &[u8]) -> Result<(Vec<DriveId>, &[
 }
 
 /// The bars of a job and its items.
-#[tactic(auto, unfolding(crate::specs::Reading::tail_at))]
-fn tail_of(alloc: Global, bytes: &[u8]) -> Result<(Tail, &[u8]), Fault>
+#[tactic(auto, unfolding(crate::specs::CheckpointFields::tail_at))]
+fn tail_of(alloc: Global, bytes: &[u8]) -> Result<(Tail, &[u8]), ReadFault<CheckpointRule>>
     ensures { Gives (λ x. (tail_view x.0, x.1.now)) result (tail_at bytes.now) }
 {
     let (count, rest) = byte_at(bytes, CheckpointRule::Bars, 0..201)?;
@@ -111,9 +120,14 @@ fn tail_of(alloc: Global, bytes: &[u8]) -> Result<(Tail, &[u8]), Fault>
     Ok((tail, rest))
 }
 
-/// A job, where so many were started and its number is at least `least`.
-#[tactic(auto, unfolding(crate::specs::Reading::job_at))]
-fn job_of(alloc: Global, started: u16, least: u32, bytes: &[u8]) -> Result<(JobSaved, &[u8]), Fault>
+/// A job, when `started` jobs were started, whose number is at least `least`.
+#[tactic(auto, unfolding(crate::specs::CheckpointFields::job_at))]
+fn job_of(
+    alloc: Global,
+    started: u16,
+    least: u32,
+    bytes: &[u8],
+) -> Result<(JobSaved, &[u8]), ReadFault<CheckpointRule>>
     ensures { Gives (λ x. (raw_job x.0, x.1.now)) result (job_at started least bytes.now) }
 {
     let (number, rest) = u16_at(bytes, CheckpointRule::Job, least..65536)?;
@@ -171,13 +185,13 @@ fn phases(kind: JobKind) -> u32
     }
 }
 
-/// So many jobs, by ascending numbers.
+/// `count` jobs, by ascending numbers.
 fn jobs_of(
     alloc: Global,
     started: u16,
     count: u8,
     bytes: &[u8],
-) -> Result<(Vec<JobSaved>, &[u8]), Fault>
+) -> Result<(Vec<JobSaved>, &[u8]), ReadFault<CheckpointRule>>
     ensures { Gives (λ x. (map raw_job x.0.items, x.1.now)) result (each (job_at started) above count 0 bytes.now) }
 {
     let mut jobs = Vec::new(alloc);
@@ -196,8 +210,11 @@ fn jobs_of(
 }
 
 /// The checkpoint that begins the bytes.
-#[tactic(auto, unfolding(crate::specs::Reading::jobs_at))]
-fn checkpoint_of(alloc: Global, bytes: &[u8]) -> Result<(Checkpoint, &[u8]), Fault>
+#[tactic(auto, unfolding(crate::specs::CheckpointFields::jobs_at))]
+fn checkpoint_of(
+    alloc: Global,
+    bytes: &[u8],
+) -> Result<(Checkpoint, &[u8]), ReadFault<CheckpointRule>>
     ensures { Gives (λ x. (raw_jobs x.0, x.1.now)) result (jobs_at bytes.now) }
 {
     let (_mark, rest) = u32_at(bytes, CheckpointRule::Mark, 0x464A_4350..0x464A_4351)?;
@@ -216,8 +233,8 @@ fn checkpoint_of(alloc: Global, bytes: &[u8]) -> Result<(Checkpoint, &[u8]), Fau
 }
 
 /// The checkpoint that is all of the bytes.
-#[tactic(auto, unfolding(crate::specs::Reading::all_of))]
-fn all_of(alloc: Global, bytes: &[u8]) -> Result<Checkpoint, Fault>
+#[tactic(auto, unfolding(crate::specs::CheckpointFields::all_of))]
+fn all_of(alloc: Global, bytes: &[u8]) -> Result<Checkpoint, ReadFault<CheckpointRule>>
     ensures { Gives raw_jobs result (all_of bytes.now) }
 {
     let (checkpoint, rest) = match checkpoint_of(alloc, bytes) {
@@ -242,10 +259,24 @@ pub fn read(alloc: Global, bytes: &[u8]) -> Result<Checkpoint, CheckpointFault>
 {
     match all_of(alloc, bytes) {
         Ok(checkpoint) => Ok(checkpoint),
-        Err(Fault::Memory) => Err(CheckpointFault::NoMemory),
-        Err(Fault::Broken(broken)) => Err(CheckpointFault::Bad(BadCheckpoint {
-            at: bytes.len().saturating_sub(broken.left) as u32,
-            what: broken.what,
-        })),
+        Err(ReadFault::Memory) => Err(CheckpointFault::NoMemory),
+        Err(ReadFault::Broken(broken)) => Err(CheckpointFault::Bad(bad_at(bytes, broken))),
+    }
+}
+
+/// What is broken, by its offset.
+fn bad_at(bytes: &[u8], broken: Broken<CheckpointRule>) -> BadCheckpoint
+    requires { length bytes.now < 2 ^ 32 }
+    ensures { result ≡ bad_at (length bytes.now) broken }
+{
+    match broken {
+        Broken::Ends => BadCheckpoint {
+            at: bytes.len() as u32,
+            what: CheckpointRule::Ends,
+        },
+        Broken::Field { left, what } => BadCheckpoint {
+            at: bytes.len().saturating_sub(left) as u32,
+            what,
+        },
     }
 }

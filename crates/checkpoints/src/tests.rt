@@ -1,5 +1,6 @@
 //! Checkpoints against the grammar of docs/FORMATS.md, "Checkpoint".
 
+use crate::CheckpointRule::*;
 use crate::{BadCheckpoint, CheckpointFault, CheckpointRule, read, write};
 use std::test::Fail;
 
@@ -57,59 +58,59 @@ fn a_prefix_ends_at_its_length(rt: HostRuntime) -> Result<(), Fail> {
     Ok(())
 }
 
-// Each byte in turn is 255. The offset of the field that is broken and its name, by hand.
+// What is broken when each byte in turn is 255: the offset of the field and its name, by hand.
+const CHANGED: [Option<(u32, CheckpointRule)>; 46] = [
+    Some((0, Mark)),
+    Some((0, Mark)),
+    Some((0, Mark)),
+    Some((0, Mark)),
+    Some((4, Format)),
+    Some((5, Started)),
+    Some((5, Started)),
+    Some((7, Jobs)),
+    Some((33, Job)),
+    Some((33, Job)),
+    Some((10, Kind)),
+    Some((11, Priority)),
+    Some((12, Order)),
+    Some((12, Order)),
+    Some((14, Paused)),
+    Some((15, Phase)),
+    Some((16, Bars)),
+    Some((17, Node)),
+    Some((18, Drive)),
+    Some((19, Node)),
+    Some((20, Drive)),
+    Some((21, Earlier)),
+    Some((22, Items)),
+    Some((34, Next)),
+    Some((24, ItemState)),
+    Some((25, Next)),
+    None,
+    Some((27, ItemState)),
+    Some((28, Next)),
+    Some((28, Next)),
+    Some((30, ItemState)),
+    Some((31, ItemState)),
+    Some((32, ItemState)),
+    None,
+    None,
+    Some((35, Kind)),
+    Some((36, Priority)),
+    Some((37, Order)),
+    Some((37, Order)),
+    Some((39, Paused)),
+    Some((40, Phase)),
+    Some((41, Bars)),
+    Some((42, Earlier)),
+    Some((43, Items)),
+    Some((46, Ends)),
+    Some((45, ItemState)),
+];
+
 #[test]
 fn a_changed_byte_breaks_its_field(rt: HostRuntime) -> Result<(), Fail> {
-    use CheckpointRule::*;
-    let table = [
-        Some((0, Mark)),
-        Some((0, Mark)),
-        Some((0, Mark)),
-        Some((0, Mark)),
-        Some((4, Format)),
-        Some((5, Started)),
-        Some((5, Started)),
-        Some((7, Jobs)),
-        Some((33, Job)),
-        Some((33, Job)),
-        Some((10, Kind)),
-        Some((11, Priority)),
-        Some((12, Order)),
-        Some((12, Order)),
-        Some((14, Paused)),
-        Some((15, Phase)),
-        Some((16, Bars)),
-        Some((17, Node)),
-        Some((18, Drive)),
-        Some((19, Node)),
-        Some((20, Drive)),
-        Some((21, Earlier)),
-        Some((22, Items)),
-        Some((34, Next)),
-        Some((24, ItemState)),
-        Some((25, Next)),
-        None,
-        Some((27, ItemState)),
-        Some((28, Next)),
-        Some((28, Next)),
-        Some((30, ItemState)),
-        Some((31, ItemState)),
-        Some((32, ItemState)),
-        None,
-        None,
-        Some((35, Kind)),
-        Some((36, Priority)),
-        Some((37, Order)),
-        Some((37, Order)),
-        Some((39, Paused)),
-        Some((40, Phase)),
-        Some((41, Bars)),
-        Some((42, Earlier)),
-        Some((43, Items)),
-        Some((46, Ends)),
-        Some((45, ItemState)),
-    ];
-    for (at, wanted) in table.iter().enumerate() {
+    for (at, wanted) in CHANGED.iter().enumerate() {
         let mut bytes = WORKED;
         bytes[at] = 255;
         assert_eq!(rt; fault(&rt, &bytes, 46), *wanted, "{at}");

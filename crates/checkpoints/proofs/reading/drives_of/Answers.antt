@@ -1,8 +1,9 @@
 use Rattle.std.proofs.Common.{◌≡◌, ℕ, ap, ◌∙◌, ◌++◌, ◌∷◌, [], map}
 use Rattle.std.proofs.lemmas.Result.{err_from_is_err_and}
 use Rattle.std.proofs.lemmas.List.{map_push}
-use Rattle.checkpoints.specs.Reading.{drive_at, each, raw_drive, this_drive}
-use Rattle.checkpoints.proofs.EachInTurn.{ends, goes_on}
+use Rattle.field_readers.specs.FieldReaders.{each}
+use Rattle.checkpoints.specs.CheckpointFields.{drive_at, raw_drive, this_drive}
+use Rattle.field_readers.proofs.EachInTurn.{ends, goes_on}
 use Rattle.checkpoints.proofs.reading.drives_of.Goals as goal
 
 pub returns-in_err-node : goal.returns-in_err-node

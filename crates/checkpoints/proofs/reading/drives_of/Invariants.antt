@@ -1,6 +1,7 @@
 use Rattle.std.proofs.Common.{◌≡◌, ◌-◌, map}
-use Rattle.checkpoints.specs.Reading.{each, drive_at, raw_drive, this_drive}
-use Rattle.checkpoints.proofs.EachInTurn.{with_front}
+use Rattle.field_readers.specs.FieldReaders.{each}
+use Rattle.checkpoints.specs.CheckpointFields.{drive_at, raw_drive, this_drive}
+use Rattle.field_readers.proofs.EachInTurn.{with_front}
 use Rattle.checkpoints.proofs.reading.drives_of.Given as goal
 
 abbrev pub invariant-loop-drive : goal.invariant-loop-drive

@@ -1,8 +1,9 @@
 use Rattle.std.proofs.Common.{◌≡◌, ◌++◌, ◌∷◌, [], map}
 use Rattle.std.proofs.lemmas.Result.{err_from_is_err_and}
 use Rattle.std.proofs.lemmas.List.{map_push}
-use Rattle.checkpoints.specs.Reading.{each, item_at, raw_item, stays}
-use Rattle.checkpoints.proofs.EachInTurn.{ends, goes_on}
+use Rattle.field_readers.specs.FieldReaders.{each}
+use Rattle.checkpoints.specs.CheckpointFields.{item_at, raw_item, stays}
+use Rattle.field_readers.proofs.EachInTurn.{ends, goes_on}
 use Rattle.checkpoints.proofs.reading.items_of.Goals as goal
 
 pub returns-in_err-item : goal.returns-in_err-item

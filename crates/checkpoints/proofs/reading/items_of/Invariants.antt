@@ -1,6 +1,7 @@
 use Rattle.std.proofs.Common.{◌≡◌, ◌-◌, map}
-use Rattle.checkpoints.specs.Reading.{each, item_at, raw_item, stays}
-use Rattle.checkpoints.proofs.EachInTurn.{with_front}
+use Rattle.field_readers.specs.FieldReaders.{each}
+use Rattle.checkpoints.specs.CheckpointFields.{item_at, raw_item, stays}
+use Rattle.field_readers.proofs.EachInTurn.{with_front}
 use Rattle.checkpoints.proofs.reading.items_of.Given as goal
 
 abbrev pub invariant-loop-item : goal.invariant-loop-item

@@ -2,7 +2,8 @@ use Rattle.std.proofs.Common.{◌≡◌, ℕ, subst, Ok}
 use Rattle.std.specs.Int.{w16}
 use Rattle.job_rules.specs.Kinds.{code_of}
 use Rattle.checkpoints.specs.declared.fault.CheckpointRule.TheVariants as rule
-use Rattle.checkpoints.specs.Reading.{byte, phase_count, tail_view, word}
+use Rattle.field_readers.specs.FieldReaders.{byte, word}
+use Rattle.checkpoints.specs.CheckpointFields.{phase_count, tail_view}
 use Rattle.checkpoints.proofs.CheckpointReader.{job_is}
 use Rattle.checkpoints.proofs.reading.job_of.Goals as goal
 

@@ -1,7 +1,8 @@
 use Rattle.std.proofs.Common.{◌≡◌, ◌++◌, ◌∷◌, [], map}
 use Rattle.std.proofs.lemmas.List.{map_push}
-use Rattle.checkpoints.specs.Reading.{above, each, job_at, raw_job}
-use Rattle.checkpoints.proofs.EachInTurn.{ends, goes_on}
+use Rattle.field_readers.specs.FieldReaders.{each}
+use Rattle.checkpoints.specs.CheckpointFields.{above, job_at, raw_job}
+use Rattle.field_readers.proofs.EachInTurn.{ends, goes_on}
 use Rattle.checkpoints.proofs.reading.jobs_of.Goals as goal
 
 pub returns-in-Err : goal.returns-in-Err

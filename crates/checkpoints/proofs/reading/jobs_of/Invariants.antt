@@ -1,6 +1,7 @@
 use Rattle.std.proofs.Common.{◌≡◌, ◌-◌, map}
-use Rattle.checkpoints.specs.Reading.{above, each, job_at, raw_job}
-use Rattle.checkpoints.proofs.EachInTurn.{with_front}
+use Rattle.field_readers.specs.FieldReaders.{each}
+use Rattle.checkpoints.specs.CheckpointFields.{above, job_at, raw_job}
+use Rattle.field_readers.proofs.EachInTurn.{with_front}
 use Rattle.checkpoints.proofs.reading.jobs_of.Given as goal
 
 abbrev pub invariant-loop-job : goal.invariant-loop-job

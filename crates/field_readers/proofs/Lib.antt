@@ -1,0 +1,2 @@
+pub mod EachInTurn
+pub mod Readers
