@@ -23,7 +23,7 @@ to_be_bytes_8-eq : (a b : ℕ) → a < 2 ^ 64 → b < 2 ^ 64 → to_be_bytes w64
 to_be_bytes_8-eq a b ha hb h = sym (from_be_bytes-to_be_bytes_8 a ha) ∙ ap (from_be_bytes w64) h ∙ from_be_bytes-to_be_bytes_8 b hb
 
 -- levels with the same numbers are one
-same_level-eq : (a b : Level) → same_level a b ≡ true → a ≡ b
+pub same_level-eq : (a b : Level) → same_level a b ≡ true → a ≡ b
 same_level-eq a b h =
     let both = and_parts _ _ h in
     let first = and_parts _ _ both.0 in
@@ -31,14 +31,14 @@ same_level-eq a b h =
     ∙ ap (λ (n : ℕ). let made : Level = record { w = b.w; m = n; k = a.k } in made) (eqb-true a.m b.m first.1)
     ∙ ap (λ (n : ℕ). let made : Level = record { w = b.w; m = b.m; k = n } in made) (eqb-true a.k b.k both.1)
 
-abbrev levels : List Level
+abbrev pub levels : List Level
 levels = map (λ (named : Level × List ℕ). named.0) named_levels
 
 -- the level stands in the table where its code says
 abbrev is_found : Level → Bool
 is_found level = same_level (get_or levels (level_code level) two_copies) level
 
-level_of_code : (level : Level) → IsLevel level → get_or levels (level_code level) two_copies ≡ level
+pub level_of_code : (level : Level) → IsLevel level → get_or levels (level_code level) two_copies ≡ level
 level_of_code level is =
     same_level-eq _ _ (All-contains (λ r. is_found r ≡ true) levels level (AllPass-from_list_all is_found levels refl) is)
 

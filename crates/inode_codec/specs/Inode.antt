@@ -45,7 +45,8 @@ pub record IsInode (i : Inode) : Type 0 where
   pub generations : AreGenerations i.groups
   pub sum : data_units i.groups ≡ units_for i.unit i.size
 
-abbrev code_from : ℕ → List (Level × List ℕ) → Level → ℕ
+-- the place of a level in these rows of the table, which begin at this place
+abbrev pub code_from : ℕ → List (Level × List ℕ) → Level → ℕ
 code_from n [] level = n
 code_from n (named ∷ rest) level = if same_level named.0 level then n else code_from (n + 1) rest level
 
@@ -68,6 +69,11 @@ group_bytes g = to_be_bytes w32 g.generation ++ (g.n ∷ g.m ∷ []) ++ places_b
 abbrev pub groups_bytes : List Group → List ℕ
 groups_bytes [] = []
 groups_bytes (g ∷ gs) = group_bytes g ++ groups_bytes gs
+
+-- the head of an inode: the mark IN, format 1, the level, the unit, the size, and how many groups
+unfoldable pub head_bytes : Level → ℕ → ℕ → ℕ → List ℕ
+head_bytes level unit size groups =
+    (0x49 ∷ 0x4E ∷ 1 ∷ level_code level ∷ []) ++ to_be_bytes w32 unit ++ to_be_bytes w64 size ++ to_be_bytes w16 groups
 
 -- an inode: the mark IN, format 1, its level, the unit, the size, how many groups, and each of them
 unfoldable pub inode_bytes : Inode → List ℕ

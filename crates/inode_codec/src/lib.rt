@@ -1,10 +1,17 @@
-//! The bytes of an inode.
+//! The bytes of an inode, read and written.
 #![tactic(auto)]
 
+mod fault;
 mod inode;
-#[cfg(test)]
-mod tests;
+pub mod laws;
+mod level_codes;
+mod reader;
 mod writer;
 
+pub use fault::{BadInode, InodeFault, InodeRule};
 pub use inode::Inode;
-pub use writer::write;
+pub use reader::read;
+pub use writer::{HEAD_LEN, append_group, append_head, group_len, write};
+
+#[cfg(test)]
+mod tests;
