@@ -10,7 +10,7 @@ use Rattle.job_rules.specs.declared.kind.JobKind.{JobKind}
 use Rattle.job_rules.specs.declared.kind.Sets.{Sets}
 use Rattle.checkpoints.specs.declared.checkpoint.ItemSaved.{ItemSaved}
 use Rattle.engine_history.specs.Jobs.{at_job, is_job, with_items}
-use Rattle.engine_history.specs.Running.{AllApart, RunApart, has_out}
+use Rattle.engine_history.specs.JobsWithItemsOut.{AllApart, RunApart, has_out}
 use Rattle.engine_history.specs.declared.job.JobState.{JobState}
 use Rattle.engine_history.proofs.RunningJobs.{AllOther, AreOther, IsIdle, Keeps}
 use Rattle.engine_history.proofs.KeptByEntries.{clash}

@@ -12,7 +12,7 @@ use Rattle.job_rules.specs.declared.phase.Phase.{Phase}
 use Rattle.checkpoints.specs.declared.checkpoint.ItemSaved.{ItemSaved}
 use Rattle.engine_history.specs.Items.{at_item, has_ended, is_out}
 use Rattle.engine_history.specs.Jobs.{Field, at_job, count_of, in_next_phase, is_job, is_started, items_in, ordered, with_items}
-use Rattle.engine_history.specs.Running.{AllApart, RunApart, has_out}
+use Rattle.engine_history.specs.JobsWithItemsOut.{AllApart, RunApart, has_out}
 use Rattle.engine_history.specs.Steps.{due, end_of_phase, or_due}
 use Rattle.engine_history.specs.declared.entry.EngineEvent.TheVariants as event
 use Rattle.engine_history.specs.declared.entry.Finished.{Finished}

@@ -8,7 +8,7 @@ use Rattle.job_rules.specs.declared.job.JobId.{JobId}
 use Rattle.job_rules.specs.declared.phase.Phase.{Phase}
 use Rattle.engine_history.specs.Items.{come_to, ended, given_back, handed_out, has_ended, items_from}
 use Rattle.engine_history.specs.Jobs.{after_event, is_started, jobs_after, new_job}
-use Rattle.engine_history.specs.Running.{AreRunning}
+use Rattle.engine_history.specs.JobsWithItemsOut.{AreRunning}
 use Rattle.engine_history.specs.Steps.{AreLegalFrom, IsStepWhere, World, due, end_of_phase, or_due}
 use Rattle.engine_history.specs.declared.end.End.{End}
 use Rattle.engine_history.specs.declared.end.End.TheVariants as end

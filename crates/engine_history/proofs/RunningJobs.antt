@@ -10,7 +10,7 @@ use Rattle.checkpoints.specs.declared.checkpoint.ItemSaved.{ItemSaved}
 use Rattle.checkpoints.specs.declared.checkpoint.ItemSaved.TheVariants.{ToDo, Out, Whole, Lost, Short}
 use Rattle.engine_history.specs.Items.{at_item, come_to, given_back, has_ended, is_out, new_items}
 use Rattle.engine_history.specs.Jobs.{at_job, is_job}
-use Rattle.engine_history.specs.Running.{AllApart, AreRunning, RunApart, has_out}
+use Rattle.engine_history.specs.JobsWithItemsOut.{AllApart, AreRunning, RunApart, has_out}
 use Rattle.engine_history.specs.declared.job.JobState.{JobState}
 
 -- ---- items

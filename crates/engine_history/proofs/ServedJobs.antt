@@ -14,7 +14,7 @@ use Rattle.job_rules.proofs.WaitingJobs.{IsAmong as IsViewAmong}
 use Rattle.checkpoints.specs.declared.checkpoint.ItemSaved.{ItemSaved}
 use Rattle.engine_history.specs.Items.{count_out}
 use Rattle.engine_history.specs.Jobs.{at_job, find_job, is_active, is_job, view_of, views_of, with_items}
-use Rattle.engine_history.specs.Running.{has_out}
+use Rattle.engine_history.specs.JobsWithItemsOut.{has_out}
 use Rattle.engine_history.specs.Steps.{IsNext, has_to_do, is_served, next_job, waits_not}
 use Rattle.engine_history.specs.declared.job.JobState.{JobState}
 use Rattle.engine_history.proofs.RunningJobs.{AllOther, AreOther, IsIdle, Keeps, any-count}

@@ -62,22 +62,16 @@ ended end.Whole = Whole
 ended (end.Lost lost) = Lost
 ended (end.Short short) = Short
 
+-- the items with a change of `count` of them from the first on, as far as there are
+abbrev pub items_from : ℕ → ℕ → (ItemSaved → ItemSaved) → List ItemSaved → List ItemSaved
+items_from first zero change is = is
+items_from first (suc count) change [] = []
+items_from zero (suc count) change (i ∷ is) = change i ∷ items_from zero count change is
+items_from (suc first) (suc count) change (i ∷ is) = i ∷ items_from first (suc count) change is
+
 -- the items with a change of the one at this place, if there is one
 abbrev pub at_item : ℕ → (ItemSaved → ItemSaved) → List ItemSaved → List ItemSaved
-at_item place change [] = []
-at_item zero change (i ∷ is) = change i ∷ is
-at_item (suc place) change (i ∷ is) = i ∷ at_item place change is
-
--- the items with a change of so many from the first on, as far as there are
-abbrev pub first_items : ℕ → (ItemSaved → ItemSaved) → List ItemSaved → List ItemSaved
-first_items zero change is = is
-first_items (suc count) change [] = []
-first_items (suc count) change (i ∷ is) = change i ∷ first_items count change is
-
-abbrev pub items_from : ℕ → ℕ → (ItemSaved → ItemSaved) → List ItemSaved → List ItemSaved
-items_from zero count change is = first_items count change is
-items_from (suc first) count change [] = []
-items_from (suc first) count change (i ∷ is) = i ∷ items_from first count change is
+at_item place change items = items_from place 1 change items
 
 -- the items of a new phase
 abbrev pub new_items : ℕ → List ItemSaved

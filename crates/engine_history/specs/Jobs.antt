@@ -52,7 +52,7 @@ is_started job jobs = list_any (is_job job) jobs
 abbrev pub at_job : JobId → (JobState → JobState) → List JobState → List JobState
 at_job job change jobs = map (λ j. if is_job job j then change j else j) jobs
 
--- a job that was started as so many were before
+-- a job that was started after `order` others
 abbrev pub new_job : Field → ℕ → JobId → JobKind → ℕ → DriveSet → JobState
 new_job field order job kind priority bars = record {
   job = job;

@@ -2,4 +2,4 @@ pub mod Items
 pub mod Jobs
 pub mod Steps
 pub mod Begun
-pub mod Running
+pub mod JobsWithItemsOut

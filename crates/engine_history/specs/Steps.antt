@@ -72,7 +72,7 @@ is_served jobs v = waits_not (why (views_of jobs) v.job) && has_to_do (find_job 
 abbrev pub next_job : List JobState → Option JobView
 next_job jobs = find (is_served jobs) (in_rank (views_of jobs))
 
--- so many items from the first one to do on, all of them to do, of the job's phase
+-- `count` items from the first one to do on, all of them to do, of the job's phase
 pub record IsRun (j : JobState) (phase first count : ℕ) : Type 0 where
   pub phase_now : phase ≡ j.phase
   pub first_one : first ≡ position_or_len is_to_do j.items
@@ -157,7 +157,7 @@ leaves job item event.Restart = false
 leaves job item (event.Work asked steps) = false
 leaves job item (event.Drain steps) = false
 
--- each of so many items from the first on is ended or given back among these events
+-- each of `count` items from the first on is ended or given back among these events
 abbrev pub all_left : JobId → ℕ → ℕ → List EngineEvent → Bool
 all_left job first zero later = true
 all_left job first (suc count) later = list_any (leaves job (first + count)) later && all_left job first count later
@@ -181,7 +181,7 @@ abbrev pub none_kept : List EngineEvent → Bool
 none_kept [] = true
 none_kept (e ∷ es) = left_behind e es && none_kept es
 
--- the operation did so many steps and keeps no item; where it is idle, no job could be served
+-- the operation did `steps` steps and keeps no item; if it is idle, no job could be served
 pub record IsWorked (jobs : List JobState) (events : List EngineEvent) (steps : ℕ) : Type 0 where
   pub counted : steps ≡ count_by is_step events
   pub left : none_kept events ≡ true

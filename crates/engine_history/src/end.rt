@@ -25,7 +25,7 @@ pub enum Short {
         got: u8,
         drives: List<DriveId>,
     },
-    /// The file would have so many groups.
+    /// The file would have this number of groups.
     TooLong {
         count: u64,
     },

@@ -69,12 +69,12 @@ pub enum EngineEvent {
     },
     /// The engine went on from a checkpoint.
     Restart,
-    /// `work` was asked for so many steps, and did so many.
+    /// `work` was asked for `asked` steps, and did `steps`.
     Work {
         asked: u32,
         steps: u32,
     },
-    /// `drain` did so many steps.
+    /// `drain` did this number of steps.
     Drain {
         steps: u32,
     },

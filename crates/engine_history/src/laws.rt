@@ -6,7 +6,7 @@ ghost use Rattle.turn_cell.specs.declared.chronicle.Note.{Note};
 ghost use Rattle.job_rules.specs.declared.job.JobId.{JobId};
 ghost use Rattle.engine_history.specs.Begun.{IsBegun, NoneTouches, touches};
 ghost use Rattle.engine_history.specs.Jobs.{Field, after_event, jobs_after};
-ghost use Rattle.engine_history.specs.Running.{AreRunning};
+ghost use Rattle.engine_history.specs.JobsWithItemsOut.{AreRunning};
 ghost use Rattle.engine_history.specs.Steps.{AreLegalFrom, World};
 ghost use Rattle.engine_history.specs.declared.entry.EngineEntry.{EngineEntry};
 

@@ -1,0 +1,15 @@
+pub mod DueJobs
+pub mod DueEntries
+pub mod OutItems
+pub mod BegunLemmas
+pub mod BegunAfterEntries
+pub mod TaskLemmas
+pub mod BarredDrives
+pub mod CountedItems
+pub mod SpelledJobs
+pub mod EngineAfterEntries
+pub mod ItemLookups
+pub mod FirstServed
+pub mod JobsSeen
+pub mod SavedLists
+pub mod EngineTurns

@@ -1,0 +1,10 @@
+pub mod BegunItems
+pub mod EngineView
+pub mod Starts
+pub mod Tasks
+pub mod HandOuts
+pub mod Orders
+pub mod Items
+pub mod Outs
+pub mod SavedJobs
+pub mod EngineTurns

@@ -1,0 +1,2 @@
+pub mod ItemsOverTurns
+pub mod EngineCalls
