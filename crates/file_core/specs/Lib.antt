@@ -1,0 +1,9 @@
+pub mod Notes
+pub mod NoteLog
+pub mod StoredGroups
+pub mod FileInvariant
+pub mod FileView
+pub mod Looks
+pub mod Creation
+pub mod Accounts
+pub mod Examples

@@ -1,0 +1,138 @@
+//! What a file is, but for its groups.
+
+ghost use Rattle.std.specs.Prelude.{◌≡◌, true, ◌||◌, ◌&&◌, ◌==◌, ◌<◌, ◌-◌, ◌^◌, length};
+ghost use Rattle.std.specs.List.{list_any};
+ghost use Rattle.domains.specs.Drive.{Drive, IsDrive, same_drive};
+ghost use Rattle.domains.specs.DriveSet.{has};
+ghost use Rattle.domains.specs.Level.{Level};
+ghost use Rattle.domains.specs.declared.group.Group.{Group};
+ghost use Rattle.file_history.specs.Layout.{Layout, Unit_, empty_layout, layout_after_event};
+ghost use Rattle.file_history.specs.Live.{is_dead};
+ghost use Rattle.file_core.specs.FileInvariant.{IsHead};
+ghost use Rattle.file_core.specs.FileView.{is_quiet};
+
+use domains::{DriveId, DriveSet, Level};
+use file_history::FileEvent;
+use std::alloc::Global;
+use std::marker::Model;
+
+/// A unit that an entry says is dead.
+#[derive(Clone, Copy, Drop)]
+pub(crate) struct DeadUnit {
+    pub(crate) generation: u32,
+    pub(crate) position: u8,
+}
+
+impl Model for DeadUnit {
+    ghost use Rattle.domains.specs.declared.group.Group.{Group};
+    ghost use Rattle.file_history.specs.Layout.{Unit_};
+
+    ghost Value = { Unit_ };
+
+    ghost view = { λ d. record { generation = d.generation; position = d.position } };
+
+    ghost inverse = { λ d. record { generation = d.generation; position = d.position } };
+}
+
+/// The requested level, that of the inode, the size in bytes, the next generation, how many units are held, which of them are
+/// dead, and the barred drives.
+#[derive(Drop)]
+pub(crate) struct Head {
+    pub(crate) requested: Level,
+    pub(crate) level: Level,
+    pub(crate) size: u64,
+    pub(crate) next: u32,
+    pub(crate) units: u32,
+    pub(crate) dead: Vec<DeadUnit>,
+    pub(crate) barred: DriveSet,
+}
+
+impl Head {
+    /// That of an absent file.
+    pub(crate) fn new(alloc: Global, level: Level) -> Head
+        ensures { IsHead result (empty_layout level) }
+    {
+        Head {
+            requested: level,
+            level,
+            size: 0,
+            next: 0,
+            units: 0,
+            dead: Vec::new(alloc),
+            barred: DriveSet::new(),
+        }
+    }
+
+    /// Takes in that the file, which was declared at this level, is deleted.
+    pub(crate) fn delete(&mut self, declared: Level)
+        ensures { (l : Layout) → IsHead self.old l → IsHead self.new (layout_after_event declared FileEvent.Deleted l) }
+    {
+        self.requested = declared;
+        self.size = 0;
+        self.units = 0;
+    }
+
+    /// Takes in that the file, which was declared at this level, is created with an inode of `units` units.
+    pub(crate) fn create(&mut self, declared: Level, units: u32)
+        requires few { self.old.next < 2 ^ 32 - 1 }
+        ensures { (l : Layout) (g : Group) → IsHead self.old l → g.generation ≡ l.next → units ≡ length g.places
+            → IsHead self.new (layout_after_event declared (FileEvent.Created g) l) }
+    {
+        self.requested = declared;
+        self.level = declared;
+        self.size = 0;
+        self.next += 1;
+        self.units = units;
+    }
+
+    /// Takes in an event that moves no unit.
+    pub(crate) fn hear(&mut self, event: &FileEvent)
+        requires { is_quiet event.now ≡ true }
+        ensures { (declared : Level) (l : Layout) → IsHead self.old l → IsHead self.new (layout_after_event declared event.now l) }
+    {
+        match event {
+            FileEvent::LevelSet { level } => self.requested = *level,
+            FileEvent::Barred { drives, .. } => add_drives(&mut self.barred, drives),
+            _ => {}
+        }
+    }
+}
+
+impl Head {
+    /// Whether an entry says that the unit is dead.
+    pub(crate) fn is_dead(&self, generation: u32, position: u8) -> bool
+        ensures { (l : Layout) → IsHead self.now l → result ≡ is_dead l generation position }
+    {
+        names(&self.dead, generation, position)
+    }
+}
+
+/// Whether one of the units is this one.
+fn names(units: &[DeadUnit], generation: u32, position: u8) -> bool
+    ensures { result ≡ list_any (λ (u : Unit_). (u.generation == generation) && (u.position == position)) units.now }
+{
+    units.iter().any(|unit| unit.generation == generation && unit.position == position)
+}
+
+/// How many drives a set can have: 16 on each of 32 nodes.
+const DRIVES: u16 = 512;
+
+/// Adds drives to a set.
+fn add_drives(set: &mut DriveSet, drives: &DriveSet)
+    ensures { (d : Drive) → IsDrive d → has set.new d ≡ (has set.old d || has drives.now d) }
+{
+    for rank in 0..DRIVES {
+        let drive = DriveId::new((rank / 16) as u8 + 1, (rank % 16) as u8 + 1);
+        add_if_in(set, drives, drive);
+    }
+}
+
+/// Adds a drive to a set, if it is one of these.
+#[tactic(auto, using(crate::proofs::DriveSetUnion::added_in, crate::proofs::DriveSetUnion::not_in))]
+fn add_if_in(set: &mut DriveSet, drives: &DriveSet, drive: DriveId)
+    ensures { (d : Drive) → IsDrive d → has set.new d ≡ (has set.old d || (has drives.now d && same_drive d drive)) }
+{
+    if drives.has(drive) {
+        set.add(drive);
+    }
+}
