@@ -1,0 +1,2 @@
+pub mod OpRules
+pub mod FirstPlaces

@@ -1,0 +1,4 @@
+mod DecimalTexts
+mod MarkedTexts
+mod OpKinds
+mod WorkedOps

@@ -1,0 +1,3 @@
+mod PlacedTexts
+mod NewRows
+mod RuleOrder

@@ -1,0 +1,6 @@
+mod TableValues
+mod TableLines
+mod TableViews
+mod TableTails
+mod RowLists
+mod WorkedTable

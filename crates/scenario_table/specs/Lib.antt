@@ -1,0 +1,4 @@
+pub mod Table
+pub mod Canonical
+pub mod Parts
+pub mod Answers
