@@ -12,14 +12,15 @@ pub(crate) fn write_entries(text: &mut String, log: &[BoardEntry]) -> Result<(),
     ensures { OnOk result (string_bytes text.new ≡ string_bytes text.old ++ board_lines log.now) }
 {
     for entry in log {
-        write_entry(text, *entry)?;
+        write_board_entry(text, entry)?;
     }
     Ok(())
 }
 
+/// Adds the line of an entry of the board.
 #[tactic(auto, unfolding(crate::specs::BoardLines::board_line))]
-fn write_entry(text: &mut String, entry: BoardEntry) -> Result<(), AllocError>
-    ensures { OnOk result (string_bytes text.new ≡ string_bytes text.old ++ board_line entry) }
+pub fn write_board_entry(text: &mut String, entry: &BoardEntry) -> Result<(), AllocError>
+    ensures { OnOk result (string_bytes text.new ≡ string_bytes text.old ++ board_line entry.now) }
 {
     write_by(text, entry.by)?;
     write!(text, " ")?;

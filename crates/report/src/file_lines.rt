@@ -19,13 +19,18 @@ pub(crate) fn write_entries(
     ensures { OnOk result (string_bytes text.new ≡ string_bytes text.old ++ file_lines declared log.now) }
 {
     for entry in log {
-        write_entry(text, declared, entry)?;
+        write_file_entry(text, declared, entry)?;
     }
     Ok(())
 }
 
+/// Adds the line of an entry of a file that was declared with this level.
 #[tactic(auto, unfolding(crate::specs::FileLines::file_line))]
-fn write_entry(text: &mut String, declared: Level, entry: &FileEntry) -> Result<(), AllocError>
+pub fn write_file_entry(
+    text: &mut String,
+    declared: Level,
+    entry: &FileEntry,
+) -> Result<(), AllocError>
     ensures { OnOk result (string_bytes text.new ≡ string_bytes text.old ++ file_line declared entry.now) }
 {
     write_by(text, entry.by)?;

@@ -9,5 +9,7 @@ mod printed;
 mod tests;
 mod words;
 
+pub use board_lines::write_board_entry;
+pub use file_lines::write_file_entry;
 pub use logs::Logs;
 pub use printed::print;

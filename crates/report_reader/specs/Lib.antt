@@ -1,0 +1,5 @@
+pub mod Fits
+pub mod Lines
+pub mod Refusals
+pub mod Events
+pub mod Laws
