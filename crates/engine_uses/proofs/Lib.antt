@@ -1,2 +1,3 @@
 pub mod ItemsOverTurns
 pub mod EngineCalls
+pub mod AskedItems

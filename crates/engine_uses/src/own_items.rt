@@ -33,6 +33,7 @@ pub fn begin<R: Wait>(
     requires to { item < task.now.first + task.now.count }
     ensures idle { IsIdleOf (cell_view cell.now) (seat_view seat.new) }
     ensures number { (seat_view seat.new).number ≡ (seat_view seat.old).number }
+    ensures item { IfSome result (λ work. (work.job ≡ task.now.job) × (work.item ≡ item)) }
     ensures begun { IfSome result (λ work. HasBegun (seat_view seat.new).number (seat_view seat.new).last work.job work.item) }
 {
     let mut turn = cell.enter(rt, seat);

@@ -5,6 +5,7 @@ use Rattle.engine_core.specs.EngineTurns.{ChangesEngine, HasBegun}
 use Rattle.engine_core.specs.EngineView.{EngineView}
 use Rattle.engine_core.proofs.EngineTurns.{changes_begin}
 use Rattle.engine_uses.proofs.ItemsOverTurns.{EngineTurned, begins_item, has_left, turn_within}
+use Rattle.engine_uses.proofs.AskedItems.{is_asked}
 use Rattle.engine_uses.proofs.own_items.begin.Given.{Over}
 use Rattle.engine_uses.proofs.own_items.begin.Goals as goal
 
@@ -26,3 +27,6 @@ returns-clause-begun g c =
     let done : IfSome c.begin-work.result (λ work. HasBegun (seat_view c.leave.new.self.1.0).number (seat_view c.leave.new.self.1.0).last work.job work.item) =
     begins_item _ _ _ _ _ (turned g c) c.begin-work.result c.begin-work.ensures.has in
     search rules
+
+pub returns-clause-item : goal.returns-clause-item
+returns-clause-item g c = is_asked c.state.result.now c.args.task.now c.args.item c.begin-work.result c.begin-work.ensures.work
