@@ -13,3 +13,4 @@ pub mod FirstServed
 pub mod JobsSeen
 pub mod SavedLists
 pub mod EngineTurns
+pub mod FirstOutItems

@@ -1,13 +1,26 @@
 -- The first item that is out.
-use Rattle.std.specs.Prelude.{ℕ, Bool, true, ◌&&◌, nat_lt, if◌then◌else◌, List, [], ◌∷◌, Option, Some, None}
+use Rattle.std.specs.Prelude.{◌≡◌, ℕ, ◌≤◌, Bool, true, false, ◌&&◌, nat_lt, if◌then◌else◌, List, [], ◌∷◌, Option, Some, None}
 use Rattle.std.specs.List.{position_or_len}
 use Rattle.job_rules.specs.declared.job.JobId.{JobId}
 use Rattle.engine_history.specs.Items.{count_out, is_out}
 use Rattle.engine_history.specs.Jobs.{find_job}
+use Rattle.engine_history.specs.Steps.{is_item_out}
 use Rattle.engine_history.specs.declared.job.JobState.{JobState}
 use Rattle.engine_core.specs.Tasks.{work_in}
 use Rattle.engine_core.specs.declared.outs.OutItem.{OutItem}
 use Rattle.engine_core.specs.declared.work.Work.{Work}
+
+-- the item is out, at this position, and each item that is out stands at it or behind it, by the numbers of jobs and then of items
+pub record IsFirst (jobs : List JobState) (out : OutItem) : Type 0 where
+  pub work : work_in (find_job out.work.job jobs) out.work.phase out.work.item ≡ Some out.work
+  pub next : out.next ≡ out.work.from_group
+  pub lowest : (job : JobId) (item : ℕ) → is_item_out jobs job item ≡ true → out.work.job.number ≤ job.number
+  pub first : (job : JobId) (item : ℕ) → is_item_out jobs job item ≡ true → job.number ≡ out.work.job.number → out.work.item ≤ item
+
+-- the first item that is out; none exactly where no item is out
+abbrev pub IsFirstOut : List JobState → Option OutItem → Type 0
+IsFirstOut jobs None = (job : JobId) (item : ℕ) → is_item_out jobs job item ≡ false
+IsFirstOut jobs (Some out) = IsFirst jobs out
 
 -- its number is below the lowest so far
 abbrev pub is_lower : Option JobId → JobId → Bool

@@ -4,7 +4,7 @@ ghost use Rattle.std.specs.Prelude.{◌≡◌, ◌≤◌, None, Some, length};
 ghost use Rattle.std.specs.List.{position_or_len};
 ghost use Rattle.engine_history.specs.Items.{is_out};
 ghost use Rattle.engine_core.specs.EngineView.{jobs_now};
-ghost use Rattle.engine_core.specs.Outs.{first_out_of, is_lower, lowest_out, out_in};
+ghost use Rattle.engine_core.specs.Outs.{IsFirstOut, first_out_of, is_lower, lowest_out, out_in};
 
 use crate::engine::Engine;
 use crate::items::work_in;
@@ -21,19 +21,24 @@ pub struct OutItem {
 }
 
 impl Engine {
-    /// The first item that is out, by the numbers of jobs and then of items.
+    /// The first item that is out, by the numbers of jobs and then of items. `None` if no item is out.
     pub fn first_out(&self) -> Option<OutItem>
-        ensures { result ≡ first_out_of (jobs_now self.now) }
+        ensures { IsFirstOut (jobs_now self.now) result }
     {
-        let jobs = self.log.jobs();
-        let Some(job) = lowest_out(jobs) else {
-            return None;
-        };
-        let Some(at) = place_of(jobs, job) else {
-            return None;
-        };
-        first_out_in(&jobs[at])
+        first_out_of(self.log.jobs())
     }
+}
+
+fn first_out_of(jobs: &[Job]) -> Option<OutItem>
+    ensures { result ≡ first_out_of jobs.now }
+{
+    let Some(job) = lowest_out(jobs) else {
+        return None;
+    };
+    let Some(at) = place_of(jobs, job) else {
+        return None;
+    };
+    first_out_in(&jobs[at])
 }
 
 /// Of the jobs with items out, the one with the lowest number.
