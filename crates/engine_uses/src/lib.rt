@@ -3,4 +3,7 @@
 
 mod own_items;
 
-pub use own_items::{Unended, begin, end, look};
+pub use own_items::{begin, end, look};
+
+#[cfg(test)]
+mod tests;

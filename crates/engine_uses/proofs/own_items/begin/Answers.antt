@@ -4,7 +4,8 @@ use Rattle.turn_cell.specs.Seats.{seat_view, taken, turn_seat}
 use Rattle.engine_core.specs.EngineTurns.{ChangesEngine, HasBegun}
 use Rattle.engine_core.specs.EngineView.{EngineView}
 use Rattle.engine_core.proofs.EngineTurns.{changes_begin}
-use Rattle.engine_uses.proofs.ItemsOverTurns.{EngineTurned, begins_item, has_left, turn_within}
+use Rattle.engine_uses.proofs.ItemsOverTurns.{EngineTurned, begins_exact, begins_item, has_left, turn_within}
+use Rattle.engine_uses.specs.ItemTurns.{BeginsItem}
 use Rattle.engine_uses.proofs.AskedItems.{is_asked}
 use Rattle.engine_uses.proofs.own_items.begin.Given.{Over}
 use Rattle.engine_uses.proofs.own_items.begin.Goals as goal
@@ -30,3 +31,9 @@ returns-clause-begun g c =
 
 pub returns-clause-item : goal.returns-clause-item
 returns-clause-item g c = is_asked c.state.result.now c.args.task.now c.args.item c.begin-work.result c.begin-work.ensures.work
+
+pub returns-clause-exact : goal.returns-clause-exact
+returns-clause-exact g c =
+    let done : BeginsItem (seat_view c.args.seat.now) (seat_view c.leave.new.self.1.0) c.args.task.now c.args.item c.begin-work.result =
+    begins_exact _ _ _ _ _ (turned g c) c.args.task.now c.args.item c.begin-work.result c.begin-work.ensures.work c.begin-work.ensures.begun in
+    search rules

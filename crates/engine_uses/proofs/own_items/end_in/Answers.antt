@@ -1,20 +1,17 @@
-use Rattle.std.proofs.Common.{◌∷◌}
-use Rattle.engine_history.specs.Jobs.{after_event}
-use Rattle.engine_history.specs.declared.entry.EngineEvent.TheVariants as event
-use Rattle.engine_core.specs.EngineView.{due_events, jobs_now}
-use Rattle.engine_uses.proofs.EngineCalls.{changes_after_reserve, changes_done_or, changes_reserve, none_else_kept}
+use Rattle.engine_uses.proofs.EngineCalls.{changes_after_reserve, changes_ended, ends_ok, ends_refused, none_else_kept}
 use Rattle.engine_uses.proofs.own_items.end_in.Goals as goal
 
-pub returns-then-is_err : goal.returns-then-is_err
-returns-then-is_err c = changes_reserve c.args.engine.now c.reserve.new.self c.reserve.ensures.same
+pub returns-in_err-reserve-clause-ended : goal.returns-in_err-reserve-clause-ended
+returns-in_err-reserve-clause-ended c =
+    ends_refused c.args.engine.now c.reserve.new.self c.args.by c.args.work.now.job c.args.work.now.item c.args.end c.from_residual.result c.in_err-reserve.field-0.0 c.from_residual.ensures.1 c.reserve.ensures.same
+    c.in_err-reserve.ensures.log_full
 
-pub done-ended-requires-clause-own : goal.done-ended-requires-clause-own
-done-ended-requires-clause-own c = none_else_kept c.args.engine.now c.reserve.new.self c.args.work.now.job c.args.work.now.item c.reserve.ensures.same c.requires
+pub returns-clause-changed : goal.returns-clause-changed
+returns-clause-changed c =
+    let own = none_else_kept c.args.engine.now c.reserve.new.self c.args.work.now.job c.args.work.now.item c.reserve.ensures.same c.requires.own in
+    changes_after_reserve c.args.engine.now c.reserve.new.self c.end_with_room.new.engine c.reserve.ensures.same
+    (changes_ended c.reserve.new.self c.end_with_room.new.engine c.args.by c.args.work.now.job c.args.work.now.item c.args.end own c.end_with_room.ensures)
 
-pub returns : goal.returns
-returns c =
-    let e = c.reserve.new.self in
-    let ended = event.Done c.args.work.now.job c.args.work.now.item c.args.end in
-    let own = none_else_kept c.args.engine.now c.reserve.new.self c.args.work.now.job c.args.work.now.item c.reserve.ensures.same c.requires in
-    changes_after_reserve c.args.engine.now c.reserve.new.self c.done-ended.new.self c.reserve.ensures.same
-    (changes_done_or c.done-ended.result c.reserve.new.self c.done-ended.new.self c.args.by c.args.work.now.job c.args.work.now.item (ended ∷ due_events 3 e.log.field (after_event e.log.field ended (jobs_now e))) own c.done-ended.ensures.entries c.done-ended.ensures.kept)
+pub returns-clause-ended : goal.returns-clause-ended
+returns-clause-ended c =
+    ends_ok c.args.engine.now c.reserve.new.self c.end_with_room.new.engine c.args.by c.args.work.now.job c.args.work.now.item c.args.end _ c.reserve.ensures.same c.in_ok-reserve.ensures.log_full c.end_with_room.ensures
