@@ -5,3 +5,4 @@ pub mod Stops
 pub mod Places
 pub mod TextStops
 pub mod Rules
+pub mod RuleWords

@@ -1,5 +1,8 @@
 //! The rules of scenarios.
 
+ghost use Rattle.std.specs.Prelude.{◌≡◌};
+ghost use Rattle.scenario_rules.specs.RuleWords.{word_of};
+
 use operation_rules::Place;
 use thiserror::Error;
 
@@ -36,6 +39,31 @@ pub enum Rule {
     Reads,
     /// What the text asks for is built.
     Unbuilt,
+}
+
+impl Rule {
+    /// The word by which a refusal names the rule.
+    pub fn word(self) -> &'static str
+        ensures { result.now ≡ word_of self }
+    {
+        match self {
+            Rule::Utf8 => "utf8",
+            Rule::Toml => "toml",
+            Rule::Keys => "keys",
+            Rule::Range => "range",
+            Rule::Drives => "drives",
+            Rule::Space => "space",
+            Rule::Files => "files",
+            Rule::Actors => "actors",
+            Rule::Op => "op",
+            Rule::Name => "name",
+            Rule::Drive => "drive",
+            Rule::Job => "job",
+            Rule::Jobs => "jobs",
+            Rule::Reads => "reads",
+            Rule::Unbuilt => "unbuilt",
+        }
+    }
 }
 
 /// The first rule that a text breaks, with the place of the first operation that breaks it, or 0 and 0.
