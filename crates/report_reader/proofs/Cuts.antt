@@ -7,6 +7,7 @@ use Rattle.std.specs.Str.{all_ascii_digits}
 use Rattle.std.specs.Char.{is_ascii_digit}
 use Rattle.std.specs.Str.Parse.{digits_value}
 use Rattle.report_reader.specs.Lines.{lacks}
+use Rattle.std.proofs.lemmas.List.{append_cancel_left}
 use Rattle.std.proofs.lemmas.Bool.{and_parts, cases_Bool, false≢true, eqb-true}
 use Rattle.std.proofs.lemmas.List.Folds.{list_all-append}
 use Rattle.std.proofs.lemmas.Fmt.{digits_decimal, digits_value-decimal}
@@ -144,3 +145,7 @@ told_same (x ∷ xs) (y ∷ ys) h =
     let (head, tail) = and_parts (eqb x y) (pointwise eqb xs ys) h in
     let first : x ≡ y = eqb-true x y head in
     rw (first, told_same xs ys tail) refl
+
+-- what stands behind one line is what stands behind the other
+pub rest_is : (a b xs ys text : List ℕ) → a ≡ b → text ≡ a ++ xs → text ≡ b ++ ys → xs ≡ ys
+rest_is a b xs ys text same one other = append_cancel_left b xs ys (ap (λ t. t ++ xs) (sym same) ∙ sym one ∙ other)

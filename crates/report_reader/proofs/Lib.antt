@@ -11,3 +11,4 @@ pub mod GroupsParted
 pub mod ReadRefusals
 pub mod ReadEvents
 pub mod EventWords
+pub mod DecodedBytes

@@ -22,7 +22,7 @@ use Rattle.report_reader.proofs.BoardTold.{board_again, board_feed, board_in, bo
 use Rattle.report_reader.proofs.FileTold.{file_again, file_feed, file_in, file_line-is}
 
 -- a line is told by the text that begins with it, and so is what follows it
-line_told : (a b rest more : List ℕ) → lacks 10 a ≡ true → lacks 10 b ≡ true → a ++ 10 ∷ rest ≡ b ++ 10 ∷ more → (a ≡ b) × (rest ≡ more)
+pub line_told : (a b rest more : List ℕ) → lacks 10 a ≡ true → lacks 10 b ≡ true → a ++ 10 ∷ rest ≡ b ++ 10 ∷ more → (a ≡ b) × (rest ≡ more)
 line_told a b rest more no_a no_b h =
     let cuts : cut 10 (a ++ 10 ∷ rest) ≡ cut 10 (b ++ 10 ∷ more) = ap (cut 10) h in
     let one = cut_at 10 a rest no_a in
@@ -32,19 +32,19 @@ line_told a b rest more no_a no_b h =
     )
 
 -- a number in a line of its own
-count_told : (n m : ℕ) (rest more : List ℕ) → IsWide n → IsWide m → decimal n ++ 10 ∷ rest ≡ decimal m ++ 10 ∷ more → (n ≡ m) × (rest ≡ more)
+pub count_told : (n m : ℕ) (rest more : List ℕ) → IsWide n → IsWide m → decimal n ++ 10 ∷ rest ≡ decimal m ++ 10 ∷ more → (n ≡ m) × (rest ≡ more)
 count_told n m rest more a b h =
     let parts = line_told (decimal n) (decimal m) rest more (decimal_lacks 10 n refl a) (decimal_lacks 10 m refl b) h in
     (sym (number_again n a) ∙ ap number_in parts.0 ∙ number_again m b, parts.1)
 
 -- what follows the same text
-rest_told : (front rest more : List ℕ) → front ++ rest ≡ front ++ more → rest ≡ more
+pub rest_told : (front rest more : List ℕ) → front ++ rest ≡ front ++ more → rest ≡ more
 rest_told [] rest more h = h
 rest_told (x ∷ front) rest more h = rest_told front rest more (ap (drop 1) h)
 
 -- ---- the board
 
-board_entry_told : (e f : BoardEntry) (rest more : List ℕ) → FitsBoardEntry e → FitsBoardEntry f → board_line e ++ rest ≡ board_line f ++ more → (e ≡ f) × (rest ≡ more)
+pub board_entry_told : (e f : BoardEntry) (rest more : List ℕ) → FitsBoardEntry e → FitsBoardEntry f → board_line e ++ rest ≡ board_line f ++ more → (e ≡ f) × (rest ≡ more)
 board_entry_told e f rest more a b h =
     let spelled : board_text e ++ 10 ∷ rest ≡ board_text f ++ 10 ∷ more =
     sym (append_assoc (board_text e) line_feed rest) ∙ ap (λ t. t ++ rest) (sym (board_line-is e)) ∙ h ∙ ap (λ t. t ++ more) (board_line-is f) ∙ append_assoc (board_text f) line_feed more in
@@ -65,7 +65,7 @@ board_spelled : (log : List BoardEntry) (rest : List ℕ) → board_block log ++
 unfolding board_block
 board_spelled log rest = simp append_assoc
 
-board_told : (es fs : List BoardEntry) (rest more : List ℕ) → AllByRecursion FitsBoardEntry es → AllByRecursion FitsBoardEntry fs → IsWide (length es) → IsWide (length fs)
+pub board_told : (es fs : List BoardEntry) (rest more : List ℕ) → AllByRecursion FitsBoardEntry es → AllByRecursion FitsBoardEntry fs → IsWide (length es) → IsWide (length fs)
     → board_block es ++ rest ≡ board_block fs ++ more → (es ≡ fs) × (rest ≡ more)
 board_told es fs rest more a b n m h =
     let spelled = sym (board_spelled es rest) ∙ h ∙ board_spelled fs more in
@@ -75,7 +75,7 @@ board_told es fs rest more a b n m h =
 
 -- ---- files
 
-file_entry_told : (declared : Level) (e f : FileEntry) (rest more : List ℕ) → IsLevel declared → FitsFileEntry e → FitsFileEntry f
+pub file_entry_told : (declared : Level) (e f : FileEntry) (rest more : List ℕ) → IsLevel declared → FitsFileEntry e → FitsFileEntry f
     → file_line declared e ++ rest ≡ file_line declared f ++ more → (e ≡ f) × (rest ≡ more)
 file_entry_told declared e f rest more is a b h =
     let spelled : file_text declared e ++ 10 ∷ rest ≡ file_text declared f ++ 10 ∷ more =
@@ -99,7 +99,7 @@ file_spelled : (f : FileDecl) (log : List FileEntry) (rest : List ℕ)
 unfolding file_block
 file_spelled f log rest = simp append_assoc
 
-file_told : (f : FileDecl) (a b : List FileEntry) (rest more : List ℕ) → IsLevel f.level → AllByRecursion FitsFileEntry a → AllByRecursion FitsFileEntry b → IsWide (length a) → IsWide (length b)
+pub file_told : (f : FileDecl) (a b : List FileEntry) (rest more : List ℕ) → IsLevel f.level → AllByRecursion FitsFileEntry a → AllByRecursion FitsFileEntry b → IsWide (length a) → IsWide (length b)
     → file_block f a ++ rest ≡ file_block f b ++ more → (a ≡ b) × (rest ≡ more)
 file_told f a b rest more is fit_a fit_b n m h =
     let spelled = sym (file_spelled f a rest) ∙ h ∙ file_spelled f b more in
@@ -107,7 +107,7 @@ file_told f a b rest more is fit_a fit_b n m h =
     (rest_told (codes "file " ++ f.name ++ codes " ") (decimal (length a) ++ 10 ∷ (file_lines f.level a ++ rest)) (decimal (length b) ++ 10 ∷ (file_lines f.level b ++ more)) spelled) in
     file_lines_told f.level a b rest more is fit_a fit_b counts.0 counts.1
 
-files_told : (fs : List FileDecl) (left right : List (List FileEntry)) (rest more : List ℕ) → FitFiles fs left → FitFiles fs right
+pub files_told : (fs : List FileDecl) (left right : List (List FileEntry)) (rest more : List ℕ) → FitFiles fs left → FitFiles fs right
     → file_blocks fs left ++ rest ≡ file_blocks fs right ++ more → left ≡ right
 files_told [] [] [] rest more x y h = refl
 files_told [] (a ∷ left) right rest more x y h = absurd x

@@ -31,6 +31,10 @@ module _ {A : Type 0} where
     pub are : AllByRecursion Is left
     pub is : rest ≡ joined text left
 
+  pub all_push : (Is : A → Type 0) (items : List A) (x : A) → AllByRecursion Is items → Is x → AllByRecursion Is (items ++ x ∷ [])
+  all_push Is [] x are is = (is, tt)
+  all_push Is (y ∷ ys) x are is = (are.0, all_push Is ys x are.1 is)
+
   no_dash : (text : A → List ℕ) (xs : List ℕ) (rest : List A) → lacks 45 xs ≡ true → 1 ≤ length xs → xs ++ more text rest ≡ 45 ∷ [] → ⊥
   no_dash text [] rest clean some same = absurd (omega arith)
   no_dash text (x ∷ xs) rest clean some same =

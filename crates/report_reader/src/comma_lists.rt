@@ -23,7 +23,8 @@ fn elements(text: &str) -> &str
 }
 
 pub(crate) fn places_of(alloc: Global, text: &str) -> Result<Vec<Place>, AllocError>
-    ensures { IfOk result (λ v. (ss : List Place) → AllByRecursion IsPlace ss → text.now ≡ places_text ss → v.items ≡ ss) }
+    ensures only { IfOk result (λ v. (ss : List Place) → AllByRecursion IsPlace ss → text.now ≡ places_text ss → v.items ≡ ss) }
+    ensures fits { IfOk result (λ v. AllByRecursion IsPlace v.items) }
 {
     let mut places = Vec::new(alloc);
     let mut rest = elements(text);
@@ -36,7 +37,8 @@ pub(crate) fn places_of(alloc: Global, text: &str) -> Result<Vec<Place>, AllocEr
 }
 
 pub(crate) fn drives_of(alloc: Global, text: &str) -> Result<Vec<DriveId>, AllocError>
-    ensures { IfOk result (λ v. (ds : List Drive) → AllByRecursion IsDrive ds → text.now ≡ drives_text ds → v.items ≡ ds) }
+    ensures only { IfOk result (λ v. (ds : List Drive) → AllByRecursion IsDrive ds → text.now ≡ drives_text ds → v.items ≡ ds) }
+    ensures fits { IfOk result (λ v. AllByRecursion IsDrive v.items) }
 {
     let mut drives = Vec::new(alloc);
     let mut rest = elements(text);
@@ -49,7 +51,8 @@ pub(crate) fn drives_of(alloc: Global, text: &str) -> Result<Vec<DriveId>, Alloc
 }
 
 pub(crate) fn generations_of(alloc: Global, text: &str) -> Result<Vec<u32>, AllocError>
-    ensures { IfOk result (λ v. (ns : List ℕ) → AllByRecursion IsGeneration ns → text.now ≡ numbers_text ns → v.items ≡ ns) }
+    ensures only { IfOk result (λ v. (ns : List ℕ) → AllByRecursion IsGeneration ns → text.now ≡ numbers_text ns → v.items ≡ ns) }
+    ensures fits { IfOk result (λ v. AllByRecursion IsGeneration v.items) }
 {
     let mut generations = Vec::new(alloc);
     let mut rest = elements(text);

@@ -26,7 +26,8 @@ fn reason_of(text: &str) -> (&str, &str)
 
 /// What a create did.
 pub(crate) fn created(alloc: Global, word: &str, rest: &str) -> Result<FileEvent, AllocError>
-    ensures { IfOk result (λ x. (e : event.FileEvent) → IsEvent e → IsCreate e → word.now ≡ outcome_word e → rest.now ≡ outcome_rest e → x ≡ e) }
+    ensures only { IfOk result (λ x. (e : event.FileEvent) → IsEvent e → IsCreate e → word.now ≡ outcome_word e → rest.now ≡ outcome_rest e → x ≡ e) }
+    ensures fits { IfOk result IsEvent }
 {
     match word {
         "inode" => {
@@ -43,7 +44,8 @@ pub(crate) fn created(alloc: Global, word: &str, rest: &str) -> Result<FileEvent
 
 /// The size and the change of a write.
 fn change_of(alloc: Global, text: &str) -> Result<(u64, Change), AllocError>
-    ensures { IfOk result (λ x. (size : ℕ) (c : change.Change) → size < 2 ^ 64 → IsChange c → text.now ≡ size_rest size c → (x.0 ≡ size) × (x.1 ≡ c)) }
+    ensures only { IfOk result (λ x. (size : ℕ) (c : change.Change) → size < 2 ^ 64 → IsChange c → text.now ≡ size_rest size c → (x.0 ≡ size) × (x.1 ≡ c)) }
+    ensures fits { IfOk result (λ x. (x.0 < 2 ^ 64) × IsChange x.1) }
 {
     let (size, rest) = cut(text, ' ');
     let (_old, rest) = cut(rest, ' ');
@@ -71,7 +73,8 @@ pub(crate) fn written(
     word: &str,
     rest: &str,
 ) -> Result<FileEvent, AllocError>
-    ensures { IfOk result (λ x. (e : event.FileEvent) → IsEvent e → IsWrite offset len e → word.now ≡ outcome_word e → rest.now ≡ outcome_rest e → x ≡ e) }
+    ensures only { IfOk result (λ x. (e : event.FileEvent) → IsEvent e → IsWrite offset len e → word.now ≡ outcome_word e → rest.now ≡ outcome_rest e → x ≡ e) }
+    ensures fits { IfOk result IsEvent }
 {
     match word {
         "size" => {
@@ -99,7 +102,8 @@ pub(crate) fn shown(
     word: &str,
     rest: &str,
 ) -> Result<FileEvent, AllocError>
-    ensures { IfOk result (λ x. (e : event.FileEvent) → IsEvent e → IsRead offset len e → word.now ≡ outcome_word e → rest.now ≡ outcome_rest e → x ≡ e) }
+    ensures only { IfOk result (λ x. (e : event.FileEvent) → IsEvent e → IsRead offset len e → word.now ≡ outcome_word e → rest.now ≡ outcome_rest e → x ≡ e) }
+    ensures fits { IfOk result IsEvent }
 {
     match word {
         "shown" => {

@@ -1,6 +1,6 @@
 //! A line of a file: a guess at its entry, which is kept if it prints as the line.
 
-ghost use Rattle.std.specs.Prelude.{codes, ◌≡◌, ◌<◌, ◌^◌, ◌++◌, ◌∷◌, ℕ, [], Some, IfSome, IfOk};
+ghost use Rattle.std.specs.Prelude.{codes, ◌≡◌, ◌<◌, ◌^◌, ◌++◌, ◌∷◌, ℕ, List, [], IfSome, IsSomeAnd, IfOk};
 ghost use Rattle.std.specs.Fmt.{decimal};
 ghost use Rattle.domains.specs.Level.{Level, IsLevel, level_name};
 ghost use Rattle.file_history.specs.declared.entry.FileEntry as entry;
@@ -12,7 +12,7 @@ ghost use Rattle.report_reader.specs.Lines.{IsEvent, IsFileEntry, IsRange};
 ghost use Rattle.report_reader.specs.Events.{IsCreate, IsRead, IsWrite, event_rest, event_word, file_text, outcome_text, range_rest};
 
 use crate::events::{created, shown, written};
-use crate::words::{by_of, cut, level_of, u8_of, u32_of, u64_of};
+use crate::words::{after, by_of, cut, level_of, u8_of, u32_of, u64_of};
 use domains::Level;
 use file_history::{FileEntry, FileEvent, Refused};
 use report::write_file_entry;
@@ -20,7 +20,8 @@ use std::alloc::{AllocError, Global};
 
 /// What follows the word `create`.
 fn create_of(alloc: Global, text: &str) -> Result<FileEvent, AllocError>
-    ensures { IfOk result (λ x. (level : Level) (e : event.FileEvent) → IsLevel level → IsEvent e → IsCreate e → text.now ≡ level_name level ++ 32 ∷ outcome_text e → x ≡ e) }
+    ensures only { IfOk result (λ x. (level : Level) (e : event.FileEvent) → IsLevel level → IsEvent e → IsCreate e → text.now ≡ level_name level ++ 32 ∷ outcome_text e → x ≡ e) }
+    ensures fits { IfOk result IsEvent }
 {
     let (_level, rest) = cut(text, ' ');
     let (word, rest) = cut(rest, ' ');
@@ -30,7 +31,8 @@ fn create_of(alloc: Global, text: &str) -> Result<FileEvent, AllocError>
 
 /// What follows the word `write`.
 fn write_of(alloc: Global, text: &str) -> Result<FileEvent, AllocError>
-    ensures { IfOk result (λ x. (offset : ℕ) (len : ℕ) (e : event.FileEvent) → IsRange offset len → IsEvent e → IsWrite offset len e → text.now ≡ range_rest offset len e → x ≡ e) }
+    ensures only { IfOk result (λ x. (offset : ℕ) (len : ℕ) (e : event.FileEvent) → IsRange offset len → IsEvent e → IsWrite offset len e → text.now ≡ range_rest offset len e → x ≡ e) }
+    ensures fits { IfOk result IsEvent }
 {
     let (offset, rest) = cut(text, ' ');
     let (len, rest) = cut(rest, ' ');
@@ -41,7 +43,8 @@ fn write_of(alloc: Global, text: &str) -> Result<FileEvent, AllocError>
 
 /// What follows the word `read`.
 fn read_of(alloc: Global, text: &str) -> Result<FileEvent, AllocError>
-    ensures { IfOk result (λ x. (offset : ℕ) (len : ℕ) (e : event.FileEvent) → IsRange offset len → IsEvent e → IsRead offset len e → text.now ≡ range_rest offset len e → x ≡ e) }
+    ensures only { IfOk result (λ x. (offset : ℕ) (len : ℕ) (e : event.FileEvent) → IsRange offset len → IsEvent e → IsRead offset len e → text.now ≡ range_rest offset len e → x ≡ e) }
+    ensures fits { IfOk result IsEvent }
 {
     let (offset, rest) = cut(text, ' ');
     let (len, rest) = cut(rest, ' ');
@@ -53,6 +56,7 @@ fn read_of(alloc: Global, text: &str) -> Result<FileEvent, AllocError>
 fn level_outcome(level: Level, rest: &str) -> FileEvent
     ensures set { rest.now ≡ [] → result ≡ events.LevelSet level }
     ensures refused { rest.now ≡ codes "refused absent" → result ≡ events.Refused (refusals.LevelAbsent level) }
+    ensures fits { IsLevel level → IsEvent result }
 {
     match rest {
         "" => FileEvent::LevelSet { level },
@@ -64,6 +68,7 @@ fn level_outcome(level: Level, rest: &str) -> FileEvent
 fn set_level_of(text: &str) -> FileEvent
     ensures set { (level : Level) → IsLevel level → text.now ≡ level_name level → result ≡ events.LevelSet level }
     ensures refused { (level : Level) → IsLevel level → text.now ≡ level_name level ++ 32 ∷ codes "refused absent" → result ≡ events.Refused (refusals.LevelAbsent level) }
+    ensures fits { IsEvent result }
 {
     let (name, rest) = cut(text, ' ');
     level_outcome(level_of(name), rest)
@@ -71,7 +76,8 @@ fn set_level_of(text: &str) -> FileEvent
 
 /// What follows the word `dead`.
 fn dead_of(text: &str) -> FileEvent
-    ensures { (generation : ℕ) (position : ℕ) → generation < 2 ^ 32 → position < 2 ^ 8 → text.now ≡ decimal generation ++ 32 ∷ decimal position → result ≡ events.Dead generation position }
+    ensures only { (generation : ℕ) (position : ℕ) → generation < 2 ^ 32 → position < 2 ^ 8 → text.now ≡ decimal generation ++ 32 ∷ decimal position → result ≡ events.Dead generation position }
+    ensures fits { IsEvent result }
 {
     let (generation, position) = cut(text, ' ');
     FileEvent::Dead {
@@ -84,6 +90,7 @@ fn dead_of(text: &str) -> FileEvent
 fn delete_of(text: &str) -> FileEvent
     ensures deleted { text.now ≡ [] → result ≡ events.Deleted }
     ensures refused { text.now ≡ codes "refused absent" → result ≡ events.Refused refusals.DeleteAbsent }
+    ensures fits { IsEvent result }
 {
     match text {
         "" => FileEvent::Deleted,
@@ -93,7 +100,8 @@ fn delete_of(text: &str) -> FileEvent
 
 /// The event of a file that was declared with some level, by its first word and what follows it.
 fn event_of(alloc: Global, word: &str, rest: &str) -> Result<FileEvent, AllocError>
-    ensures { IfOk result (λ x. (declared : Level) (e : event.FileEvent) → IsLevel declared → IsEvent e → word.now ≡ event_word e → rest.now ≡ event_rest declared e → x ≡ e) }
+    ensures only { IfOk result (λ x. (declared : Level) (e : event.FileEvent) → IsLevel declared → IsEvent e → word.now ≡ event_word e → rest.now ≡ event_rest declared e → x ≡ e) }
+    ensures fits { IfOk result IsEvent }
 {
     match word {
         "create" => {
@@ -116,7 +124,8 @@ fn event_of(alloc: Global, word: &str, rest: &str) -> Result<FileEvent, AllocErr
 
 /// The entry that a line tells, without its line feed.
 fn entry_of(alloc: Global, text: &str) -> Result<FileEntry, AllocError>
-    ensures { IfOk result (λ x. (declared : Level) (e : entry.FileEntry) → IsLevel declared → IsFileEntry e → text.now ≡ file_text declared e → x ≡ e) }
+    ensures only { IfOk result (λ x. (declared : Level) (e : entry.FileEntry) → IsLevel declared → IsFileEntry e → text.now ≡ file_text declared e → x ≡ e) }
+    ensures fits { IfOk result IsFileEntry }
 {
     let (by, rest) = cut(text, ' ');
     let (epoch, rest) = cut(rest, ' ');
@@ -130,28 +139,28 @@ fn entry_of(alloc: Global, text: &str) -> Result<FileEntry, AllocError>
     })
 }
 
-/// The entry of a line of a file that was declared with this level, with its line feed: nothing if it is the line of none
-/// (docs/FORMATS.md, "Report"). `scratch` is written over.
-pub fn read_file_entry(
+/// The entry of the line that the text of a file declared with this level begins with, and what stands behind its line feed:
+/// nothing if it begins with the line of none (docs/FORMATS.md, "Report"). `scratch` is written over.
+pub fn read_file_entry<'a>(
     alloc: Global,
     scratch: &mut String,
     declared: Level,
-    line: &str,
-) -> Result<Option<FileEntry>, AllocError>
+    text: &'a str,
+) -> Result<Option<(FileEntry, &'a str)>, AllocError>
     // What is read prints as the line.
-    ensures found { IfOk result (λ r. IfSome r (λ e. line.now ≡ file_line declared e)) }
+    ensures found { IfOk result (λ r. IfSome r (λ p. text.now ≡ file_line declared p.0 ++ p.1.now)) }
+    ensures fits { IfOk result (λ r. IfSome r (λ p. IsFileEntry p.0)) }
     // What prints as the line is read.
-    ensures only { IfOk result (λ r. (e : entry.FileEntry) → IsFileEntry e → line.now ≡ file_line declared e → r ≡ Some e) }
+    ensures only { IfOk result (λ r. (e : entry.FileEntry) (rest : List ℕ) → IsFileEntry e → text.now ≡ file_line declared e ++ rest → IsSomeAnd r (λ p. (p.0 ≡ e) × (p.1.now ≡ rest))) }
 {
     // A level that is read is known to be one.
     let _width = declared.w();
-    let (text, _) = cut(line, '\n');
-    let entry = entry_of(alloc, text)?;
+    let (line, _) = cut(text, '\n');
+    let entry = entry_of(alloc, line)?;
     scratch.clear();
     write_file_entry(scratch, declared, &entry)?;
-    if scratch.as_str() == line {
-        Ok(Some(entry))
-    } else {
-        Ok(None)
+    match after(text, scratch.as_str()) {
+        Some(rest) => Ok(Some((entry, rest))),
+        None => Ok(None),
     }
 }

@@ -13,7 +13,8 @@ use hex::FromHexError;
 use std::alloc::{AllocError, Global};
 
 pub(crate) fn group_of(alloc: Global, text: &str) -> Result<Group, AllocError>
-    ensures { IfOk result (λ x. (g : group.Group) → IsGroup g → text.now ≡ group_text g → x ≡ g) }
+    ensures only { IfOk result (λ x. (g : group.Group) → IsGroup g → text.now ≡ group_text g → x ≡ g) }
+    ensures fits { IfOk result IsGroup }
 {
     let (generation, rest) = cut(text, '=');
     let (n, rest) = cut(rest, '+');
@@ -37,7 +38,8 @@ fn groups_part(text: &str) -> &str
 
 /// The groups before the word `inode`, and what stands behind it.
 pub(crate) fn groups_of(alloc: Global, text: &str) -> Result<(Vec<Group>, &str), AllocError>
-    ensures { IfOk result (λ x. (gs : List group.Group) (i : group.Group) → AllByRecursion IsGroup gs → text.now ≡ groups_text gs ++ inode_tail i → (x.0.items ≡ gs) × (x.1.now ≡ group_text i)) }
+    ensures only { IfOk result (λ x. (gs : List group.Group) (i : group.Group) → AllByRecursion IsGroup gs → text.now ≡ groups_text gs ++ inode_tail i → (x.0.items ≡ gs) × (x.1.now ≡ group_text i)) }
+    ensures fits { IfOk result (λ x. AllByRecursion IsGroup x.0.items) }
 {
     let mut groups = Vec::new(alloc);
     let mut rest = groups_part(text);
@@ -55,7 +57,8 @@ pub(crate) fn groups_of(alloc: Global, text: &str) -> Result<(Vec<Group>, &str),
 
 /// Bytes in hexadecimal, or a dash.
 pub(crate) fn bytes_of(alloc: Global, text: &str) -> Result<Vec<u8>, AllocError>
-    ensures { IfOk result (λ v. (bytes : List ℕ) → AllByRecursion (λ b. b < 256) bytes → text.now ≡ bytes_text bytes → v.items ≡ bytes) }
+    ensures only { IfOk result (λ v. (bytes : List ℕ) → AllByRecursion (λ b. b < 256) bytes → text.now ≡ bytes_text bytes → v.items ≡ bytes) }
+    ensures fits { IfOk result (λ v. AllByRecursion (λ b. b < 256) v.items) }
 {
     match hex::decode(alloc, text) {
         Ok(bytes) => Ok(bytes),

@@ -3,6 +3,7 @@
 
 mod board_line;
 mod comma_lists;
+mod count_line;
 mod events;
 mod file_line;
 mod groups;
@@ -11,6 +12,7 @@ mod refusals;
 mod words;
 
 pub use board_line::read_board_entry;
+pub use count_line::read_count;
 pub use file_line::read_file_entry;
 
 #[cfg(test)]

@@ -15,7 +15,8 @@ use file_history::Refused;
 use std::alloc::{AllocError, Global};
 
 fn too_few_of(text: &str) -> TooFew
-    ensures { (t : few.TooFew) → IsTooFew t → text.now ≡ too_few_rest t → result ≡ t }
+    ensures only { (t : few.TooFew) → IsTooFew t → text.now ≡ too_few_rest t → result ≡ t }
+    ensures fits { IsTooFew result }
 {
     let (have, need) = cut(text, ' ');
     TooFew {
@@ -25,7 +26,8 @@ fn too_few_of(text: &str) -> TooFew
 }
 
 fn lost_of(text: &str) -> Lost
-    ensures { (l : lost.Lost) → IsLost l → text.now ≡ lost_rest l → result ≡ l }
+    ensures only { (l : lost.Lost) → IsLost l → text.now ≡ lost_rest l → result ≡ l }
+    ensures fits { IsLost result }
 {
     let (generation, rest) = cut(text, ' ');
     let (have, need) = cut(rest, ' ');
@@ -44,7 +46,8 @@ struct NoRoom {
 }
 
 fn no_room_of(alloc: Global, text: &str) -> Result<NoRoom, AllocError>
-    ensures { IfOk result (λ x. (need : ℕ) (got : ℕ) (drives : List Drive) → IsNoRoom need got drives → text.now ≡ no_room_rest need got drives → (x.need ≡ need) × (x.got ≡ got) × (x.drives.items ≡ drives)) }
+    ensures only { IfOk result (λ x. (need : ℕ) (got : ℕ) (drives : List Drive) → IsNoRoom need got drives → text.now ≡ no_room_rest need got drives → (x.need ≡ need) × (x.got ≡ got) × (x.drives.items ≡ drives)) }
+    ensures fits { IfOk result (λ x. IsNoRoom x.need x.got x.drives.items) }
 {
     let (need, rest) = cut(text, ' ');
     let (got, rest) = cut(rest, ' ');
@@ -58,7 +61,8 @@ fn no_room_of(alloc: Global, text: &str) -> Result<NoRoom, AllocError>
 
 /// The refusal of a create, by the first word of its reason and what follows it.
 pub(crate) fn create_refusal(alloc: Global, word: &str, rest: &str) -> Result<Refused, AllocError>
-    ensures { IfOk result (λ x. (r : refused.Refused) → IsRefused r → IsCreateRefusal r → word.now ≡ reason_head r → rest.now ≡ reason_rest r → x ≡ r) }
+    ensures only { IfOk result (λ x. (r : refused.Refused) → IsRefused r → IsCreateRefusal r → word.now ≡ reason_head r → rest.now ≡ reason_rest r → x ≡ r) }
+    ensures fits { IfOk result IsRefused }
 {
     match word {
         "exists" => Ok(Refused::CreateExists),
@@ -79,7 +83,8 @@ pub(crate) fn write_refusal(
     word: &str,
     rest: &str,
 ) -> Result<Refused, AllocError>
-    ensures { IfOk result (λ x. (r : refused.Refused) → IsRefused r → IsWriteRefusal offset len r → word.now ≡ reason_head r → rest.now ≡ reason_rest r → x ≡ r) }
+    ensures only { IfOk result (λ x. (r : refused.Refused) → IsRefused r → IsWriteRefusal offset len r → word.now ≡ reason_head r → rest.now ≡ reason_rest r → x ≡ r) }
+    ensures fits { IfOk result IsRefused }
 {
     match word {
         "absent" => Ok(Refused::WriteAbsent { offset, len }),
@@ -111,7 +116,8 @@ pub(crate) fn write_refusal(
 
 /// The refusal of a read.
 pub(crate) fn read_refusal(offset: u64, len: u32, word: &str, rest: &str) -> Refused
-    ensures { (r : refused.Refused) → IsRefused r → IsReadRefusal offset len r → word.now ≡ reason_head r → rest.now ≡ reason_rest r → result ≡ r }
+    ensures only { (r : refused.Refused) → IsRefused r → IsReadRefusal offset len r → word.now ≡ reason_head r → rest.now ≡ reason_rest r → result ≡ r }
+    ensures fits { IsRefused result }
 {
     match word {
         "absent" => Refused::ReadAbsent { offset, len },

@@ -8,7 +8,7 @@ use std::test::Fail;
 /// Whether the line is one of the board.
 fn is_of_board(rt: &HostRuntime, line: &str) -> bool {
     let mut scratch = String::new(rt.alloc());
-    matches!(read_board_entry(&mut scratch, line), Ok(Some(_)))
+    matches!(read_board_entry(&mut scratch, line), Ok(Some((_, ""))))
 }
 
 /// Whether the line is one of a file at `2x`.
@@ -16,7 +16,7 @@ fn is_of_file(rt: &HostRuntime, line: &str) -> bool {
     let mut scratch = String::new(rt.alloc());
     matches!(
         read_file_entry(rt.alloc(), &mut scratch, Level::two_copies(), line),
-        Ok(Some(_))
+        Ok(Some((_, "")))
     )
 }
 
@@ -112,7 +112,7 @@ fn an_entry_is_written_as_it_was_read(rt: HostRuntime) -> Result<(), Fail> {
     let mut scratch = String::new(rt.alloc());
     let declared = Level::two_copies();
     let read = read_file_entry(rt.alloc(), &mut scratch, declared, line)?;
-    let entry = read.ok_or("the line is one of a file")?;
+    let (entry, _) = read.ok_or("the line is one of a file")?;
     let mut text = String::new(rt.alloc());
     write_file_entry(&mut text, declared, &entry)?;
     assert_eq!(rt; text.as_str(), line);

@@ -1,7 +1,7 @@
 //! The words of a report's lines. Each function guesses what a text says: what spells a value is read as it, and any other
 //! text as some value, which does not print as the text.
 
-ghost use Rattle.std.specs.Prelude.{◌≡◌, ◌≤◌, ◌<◌, ◌^◌, ℕ, true, List, [], ◌∷◌, ◌++◌, length};
+ghost use Rattle.std.specs.Prelude.{◌≡◌, ◌≤◌, ◌<◌, ◌^◌, ℕ, true, List, [], ◌∷◌, ◌++◌, length, IfSome, IsSomeAnd};
 ghost use Rattle.std.specs.Fmt.{decimal};
 ghost use Rattle.domains.specs.Drive.{Drive, IsDrive};
 ghost use Rattle.domains.specs.Level.{Level, IsLevel, level_name};
@@ -24,6 +24,14 @@ pub(crate) fn cut(text: &str, mark: char) -> (&str, &str)
         Some(parts) => parts,
         None => (text, ""),
     }
+}
+
+/// What stands after this front.
+pub(crate) fn after<'a>(text: &'a str, front: &str) -> Option<&'a str>
+    ensures found { IfSome result (λ rest. text.now ≡ front.now ++ rest.now) }
+    ensures only { (rest : List ℕ) → text.now ≡ front.now ++ rest → IsSomeAnd result (λ x. x.now ≡ rest) }
+{
+    text.strip_prefix(front)
 }
 
 pub(crate) fn u8_of(text: &str) -> u8
@@ -52,7 +60,8 @@ pub(crate) fn u32_of(text: &str) -> u32
 
 /// Who made an entry.
 pub(crate) fn by_of(text: &str) -> By
-    ensures { (b : by.By) → IsBy b → text.now ≡ by_text b → result ≡ b }
+    ensures only { (b : by.By) → IsBy b → text.now ≡ by_text b → result ≡ b }
+    ensures fits { IsBy result }
 {
     let (actor, call) = cut(text, '.');
     By {
@@ -62,14 +71,16 @@ pub(crate) fn by_of(text: &str) -> By
 }
 
 pub(crate) fn drive_of(text: &str) -> DriveId
-    ensures { (d : Drive) → IsDrive d → text.now ≡ drive_text d → result ≡ d }
+    ensures only { (d : Drive) → IsDrive d → text.now ≡ drive_text d → result ≡ d }
+    ensures fits { IsDrive result }
 {
     let (node, drive) = cut(text, '/');
     DriveId::new(within(u8_of(node), 32), within(u8_of(drive), 16))
 }
 
 pub(crate) fn node_of(text: &str) -> NodeId
-    ensures { (n : ℕ) → 1 ≤ n → n ≤ 32 → text.now ≡ decimal n → result ≡ n }
+    ensures only { (n : ℕ) → 1 ≤ n → n ≤ 32 → text.now ≡ decimal n → result ≡ n }
+    ensures fits { (1 ≤ result) × (result ≤ 32) }
 {
     NodeId::new(within(u8_of(text), 32))
 }
@@ -85,7 +96,8 @@ fn within(number: u8, last: u8) -> u8
 }
 
 pub(crate) fn level_of(text: &str) -> Level
-    ensures { (level : Level) → IsLevel level → text.now ≡ level_name level → result ≡ level }
+    ensures only { (level : Level) → IsLevel level → text.now ≡ level_name level → result ≡ level }
+    ensures fits { IsLevel result }
 {
     match Level::read(text) {
         Ok(level) => level,
@@ -94,7 +106,8 @@ pub(crate) fn level_of(text: &str) -> Level
 }
 
 pub(crate) fn place_of(text: &str) -> Place
-    ensures { (s : Place) → IsPlace s → text.now ≡ place_text s → result ≡ s }
+    ensures only { (s : Place) → IsPlace s → text.now ≡ place_text s → result ≡ s }
+    ensures fits { IsPlace result }
 {
     let (drive, slot) = cut(text, ':');
     Place::new(drive_of(drive), slot_of(slot))

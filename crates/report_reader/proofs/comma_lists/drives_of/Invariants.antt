@@ -11,7 +11,7 @@ use Rattle.report_reader.proofs.comma_lists.drives_of.Given as goal
 -- what was read and what is left are the list
 abbrev pub invariant-drives : goal.invariant-drives
 invariant-drives l =
-    shadow (Utf8 l.rest) × ((all : List Drive) → AllByRecursion IsDrive all → l.text ≡ drives_text all → Parted drive_text IsDrive all l.drives.items l.rest)
+    shadow (Utf8 l.rest) × (((all : List Drive) → AllByRecursion IsDrive all → l.text ≡ drives_text all → Parted drive_text IsDrive all l.drives.items l.rest) × AllByRecursion IsDrive l.drives.items)
 
 abbrev pub decreases-drives : goal.decreases-drives
 decreases-drives l = length l.rest

@@ -11,7 +11,7 @@ use Rattle.report_reader.proofs.comma_lists.generations_of.Given as goal
 -- what was read and what is left are the list
 abbrev pub invariant-generations : goal.invariant-generations
 invariant-generations l =
-    shadow (Utf8 l.rest) × ((all : List ℕ) → AllByRecursion IsGeneration all → l.text ≡ numbers_text all → Parted decimal IsGeneration all l.generations.items l.rest)
+    shadow (Utf8 l.rest) × (((all : List ℕ) → AllByRecursion IsGeneration all → l.text ≡ numbers_text all → Parted decimal IsGeneration all l.generations.items l.rest) × AllByRecursion IsGeneration l.generations.items)
 
 abbrev pub decreases-generations : goal.decreases-generations
 decreases-generations l = length l.rest

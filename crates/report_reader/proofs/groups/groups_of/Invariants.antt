@@ -12,7 +12,7 @@ use Rattle.report_reader.proofs.groups.groups_of.Given as goal
 abbrev pub invariant-groups : goal.invariant-groups
 invariant-groups l =
     shadow (Utf8 l.rest)
-    × ((all : List Group) (i : Group) → AllByRecursion IsGroup all → l.text ≡ groups_text all ++ inode_tail i → GroupsParted all i l.groups.items l.rest)
+    × (((all : List Group) (i : Group) → AllByRecursion IsGroup all → l.text ≡ groups_text all ++ inode_tail i → GroupsParted all i l.groups.items l.rest) × AllByRecursion IsGroup l.groups.items)
 
 abbrev pub decreases-groups : goal.decreases-groups
 decreases-groups l = length l.rest

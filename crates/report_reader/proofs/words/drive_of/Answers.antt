@@ -4,8 +4,8 @@ use Rattle.report_reader.proofs.Cuts.{decimal_lacks}
 use Rattle.report_reader.proofs.WordsTold.{drive_is, drive_spelled}
 use Rattle.report_reader.proofs.words.drive_of.Goals as goal
 
-pub returns : goal.returns
-returns c = λ d fit is.
+pub returns-clause-only : goal.returns-clause-only
+returns-clause-only c = λ d fit is.
     let parts = c.cut.ensures.at (decimal d.node) (decimal d.drive) (decimal_lacks 47 d.node refl (omega (arith, fit.nodes))) (is ∙ drive_spelled d) in
     let node = c.u8_of.ensures d.node (omega (arith, fit.nodes)) parts.0 in
     let drive = c.u8_of-2.ensures d.drive (omega (arith, fit.drives)) parts.1 in
