@@ -14,6 +14,7 @@ mod words;
 pub use board_line::read_board_entry;
 pub use count_line::read_count;
 pub use file_line::read_file_entry;
+pub use words::after;
 
 #[cfg(test)]
 mod tests;

@@ -27,7 +27,7 @@ pub(crate) fn cut(text: &str, mark: char) -> (&str, &str)
 }
 
 /// What stands after this front.
-pub(crate) fn after<'a>(text: &'a str, front: &str) -> Option<&'a str>
+pub fn after<'a>(text: &'a str, front: &str) -> Option<&'a str>
     ensures found { IfSome result (λ rest. text.now ≡ front.now ++ rest.now) }
     ensures only { (rest : List ℕ) → text.now ≡ front.now ++ rest → IsSomeAnd result (λ x. x.now ≡ rest) }
 {
