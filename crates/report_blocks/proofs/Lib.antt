@@ -4,3 +4,6 @@ pub mod BlockFronts
 pub mod LogBlocks
 pub mod Outcomes
 pub mod FileHeads
+pub mod FileFronts
+pub mod ReportFronts
+pub mod FileItems

@@ -1,6 +1,7 @@
 //! A block of the board or of a file: a line with a count, and as many lines of entries.
 
 ghost use Rattle.std.specs.Prelude.{◌≡◌, true, IfErr, IfOk};
+ghost use Rattle.domains.specs.Level.{IsLevel};
 ghost use Rattle.report.specs.Printed.{board_block, file_block};
 ghost use Rattle.report_reader.specs.Counts.{count_line};
 ghost use Rattle.report_reader.specs.Fits.{IsWide};
@@ -31,7 +32,7 @@ fn count_behind<'a>(scratch: &mut String, head: &str, text: &'a str) -> Result<(
 }
 
 /// The board's entries, and what stands behind its block.
-pub fn read_board<'a>(
+pub(crate) fn read_board<'a>(
     alloc: Global,
     scratch: &mut String,
     text: &'a str,
@@ -47,7 +48,7 @@ pub fn read_board<'a>(
 }
 
 /// The entries of a file, and what stands behind its block.
-pub fn read_file<'a>(
+pub(crate) fn read_file<'a>(
     alloc: Global,
     scratch: &mut String,
     file: &FileDecl,
@@ -55,6 +56,7 @@ pub fn read_file<'a>(
 ) -> Result<(Vec<FileEntry>, &'a str), Stop>
     ensures read { IfOk result (λ p. IsRead (IsLog IsFileEntry) (file_block file.now) text.now p.0.items p.1.now) }
     ensures stopped { IfErr result (Stops (IsLog IsFileEntry) (file_block file.now) text.now) }
+    ensures level { IsLevel file.now.level }
 {
     // A level that is read is known to be one.
     let _width = file.level.w();

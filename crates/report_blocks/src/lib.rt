@@ -3,7 +3,8 @@
 
 mod blocks;
 mod entries;
+mod files;
 mod stop;
 
-pub use blocks::{read_board, read_file};
+pub use files::read_blocks;
 pub use stop::Stop;
