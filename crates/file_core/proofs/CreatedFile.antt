@@ -23,7 +23,7 @@ use Rattle.file_history.specs.Stored.{IsRooted}
 use Rattle.file_history.specs.declared.entry.FileEvent.TheVariants.{Created, Deleted}
 use Rattle.file_core.specs.StoredGroups.{Content, StoredGroup, SpellIn}
 use Rattle.file_core.specs.FileInvariant.{KeepsSlots, is_there}
-use Rattle.file_core.specs.Creation.{empty_inode}
+use Rattle.file_core.specs.Creation.{Took, empty_inode}
 
 -- what holds of all elements holds of one
 all_contains : {A : Type 0} (P : A → Type 0) (xs : List A) (k : ℕ) (x : A) → AllByRecursion P xs → k < length xs → get_or xs k x ≡ x → P x
@@ -92,8 +92,9 @@ absent_empty shape l bytes groups inode kept rooted absent =
 pub KeepsSlots-created : (shape : Shape) (declared : Level) (l : Layout) (old payload : List ℕ) (g : Group) (new : StoredGroup)
     → new.group ≡ g → new.places ≡ g.places → length g.places ≤ 255 → AreDistinct g.places → AllByRecursion (IsPlaceOf shape) g.places
     → SpellIn (empty_inode declared shape.unit) new.contents
+    → AllByRecursion (λ (n : ℕ). n ≡ length (inode_bytes (empty_inode declared shape.unit))) new.lengths
     → KeepsSlots shape (layout_after_event declared (Created g) l) (bytes_after_event (Created g) payload old) [] (new ∷ [])
-KeepsSlots-created shape declared l old payload g new group places few distinct within spelled = record {
+KeepsSlots-created shape declared l old payload g new group places few distinct within spelled lengths = record {
   mapped = refl;
   root = ap (λ (x : Group). x ∷ []) group;
   there = refl;
@@ -106,6 +107,7 @@ KeepsSlots-created shape declared l old payload g new group places few distinct 
     tt,
   );
   sized = tt;
+  root_sized = (lengths, tt);
   distinct = subst AreDistinct (sym (append-nil g.places)) distinct;
   within = subst (AllByRecursion (IsPlaceOf shape)) (sym (append-nil g.places)) within;
   spelled = (spelled, tt);
@@ -123,6 +125,7 @@ KeepsSlots-deleted shape declared l old payload = record {
   stands = tt;
   root_stands = tt;
   sized = tt;
+  root_sized = tt;
   distinct = tt;
   within = tt;
   spelled = tt;
@@ -131,10 +134,16 @@ KeepsSlots-deleted shape declared l old payload = record {
   run = refl;
 }
 
-pub all_hold : {S : Type 0} (content : S → Content) (bytes : List ℕ) (slots : List S) → AllByRecursion (λ (x : S). Holds (content x) bytes) slots
-    → AllByRecursion (λ (x : Content). Holds x bytes) (map content slots)
-all_hold content bytes [] all = tt
-all_hold content bytes (x ∷ xs) all = (all.0, all_hold content bytes xs all.1)
+module _ {S : Type 0} (content : S → Content) (len_of : S → ℕ) where
+  pub all_hold : (bytes : List ℕ) (slots : List S) → AllByRecursion (Took content len_of bytes) slots
+      → AllByRecursion (λ (x : Content). Holds x bytes) (map content slots)
+  all_hold bytes [] all = tt
+  all_hold bytes (x ∷ xs) all = (all.0.held, all_hold bytes xs all.1)
+
+  pub all_long : (bytes : List ℕ) (slots : List S) → AllByRecursion (Took content len_of bytes) slots
+      → AllByRecursion (λ (n : ℕ). n ≡ length bytes) (map len_of slots)
+  all_long bytes [] all = tt
+  all_long bytes (x ∷ xs) all = (all.0.len, all_long bytes xs all.1)
 
 -- slots at the same places
 pub same_places : {S : Type 0} (place_of : S → RawPlace) (xs ys : List S) → map place_of xs ≡ map place_of ys → places_from place_of xs ≡ places_from place_of ys

@@ -94,6 +94,7 @@ KeepsSlots-quiet (LevelSet level) declared payload shape l bytes groups inode qu
   stands = kept.stands;
   root_stands = kept.root_stands;
   sized = kept.sized;
+  root_sized = kept.root_sized;
   distinct = kept.distinct;
   within = kept.within;
   spelled = kept.spelled;
@@ -110,6 +111,7 @@ KeepsSlots-quiet (Barred job drives) declared payload shape l bytes groups inode
   stands = kept.stands;
   root_stands = kept.root_stands;
   sized = kept.sized;
+  root_sized = kept.root_sized;
   distinct = kept.distinct;
   within = kept.within;
   spelled = kept.spelled;

@@ -5,3 +5,7 @@ pub mod GroupLookups
 pub mod CreatedFile
 pub mod FileAccounts
 pub mod ExampleFile
+pub mod PullLemmas
+pub mod PullCauses
+pub mod PulledSlots
+pub mod PulledBytes

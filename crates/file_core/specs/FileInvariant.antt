@@ -7,6 +7,7 @@ use Rattle.domains.specs.Place.{IsPlaceOf}
 use Rattle.domains.specs.Shape.{Shape, IsShape}
 use Rattle.domains.specs.Level.{Level, IsLevel}
 use Rattle.domains.specs.declared.group.Group.{Group}
+use Rattle.inode_codec.specs.Inode.{inode_bytes}
 use Rattle.turn_cell.specs.declared.chronicle.Note.{Note}
 use Rattle.file_history.specs.Bytes.{bytes_after}
 use Rattle.file_history.specs.Layout.{Layout, layout_after, group_list, all_groups, places_of}
@@ -32,6 +33,7 @@ pub record KeepsSlots (shape : Shape) (l : Layout) (bytes : List ℕ) (groups in
   pub stands : AllByRecursion StandsThere groups
   pub root_stands : AllByRecursion StandsThere inode
   pub sized : AllByRecursion (λ (g : StoredGroup). AllByRecursion (λ (n : ℕ). n ≡ shape.unit) g.lengths) groups
+  pub root_sized : AllByRecursion (λ (g : StoredGroup). AllByRecursion (λ (n : ℕ). n ≡ length (inode_bytes (inode_of shape.unit l))) g.lengths) inode
   pub distinct : AreDistinct (places_of (all_groups l))
   pub within : AllByRecursion (IsPlaceOf shape) (places_of (all_groups l))
   pub spelled : AllByRecursion (λ (g : StoredGroup). SpellIn (inode_of shape.unit l) g.contents) inode

@@ -7,3 +7,5 @@ pub mod Looks
 pub mod Creation
 pub mod Accounts
 pub mod Examples
+pub mod Pulls
+pub mod PullAnswers

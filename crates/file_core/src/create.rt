@@ -2,14 +2,13 @@
 
 ghost use Rattle.std.specs.Prelude.{◌≡◌, ℕ, ◌≤◌, ◌<◌, ◌++◌, ◌+◌, ◌⊎◌, [], Some, Err, IsOk, length, map, IfErr, IfOk, OnOk, OnErr};
 ghost use Rattle.std.specs.List.{AllByRecursion};
-ghost use Rattle.flex_io.specs.Slots.{Holds};
 ghost use Rattle.flex_io.specs.Faults.{HasRisen};
 ghost use Rattle.domains.specs.Place.{IsPlace, IsPlaceOf};
 ghost use Rattle.domains.specs.AtLevel.{InodeAt};
 ghost use Rattle.held_slots.specs.Slots.{places_from};
 ghost use Rattle.file_history.specs.Step.{Creates};
 ghost use Rattle.inode_codec.specs.Inode.{inode_bytes};
-ghost use Rattle.file_core.specs.Creation.{FailsFrom, IsCreated, empty_inode, inode_group};
+ghost use Rattle.file_core.specs.Creation.{FailsFrom, IsCreated, Took, empty_inode, inode_group};
 ghost use Rattle.file_core.specs.FileView.{IsFile, IsLater, layout_of, now_of, with_note};
 ghost use Rattle.file_core.specs.Notes.{noted};
 
@@ -125,7 +124,7 @@ impl<S: Slot + Send + Drop> FileState<S> {
         requires legal { Creates (now_of self.old view.now) (layout_of self.old) prepared.logged }
         requires twice { prepared.kept ≡ prepared.logged }
         requires stands { places_from S.place_of slots.items ≡ prepared.logged.places }
-        requires spelled { AllByRecursion (λ x. Holds (S.content x) (inode_bytes (empty_inode self.old.level self.old.shape.unit))) slots.items }
+        requires spelled { AllByRecursion (Took S.content S.len_of (inode_bytes (empty_inode self.old.level self.old.shape.unit))) slots.items }
         ensures noted { self.new ≡ record (with_note self.old (noted by view.now (FileEvent.Created prepared.logged) [])) {
           inode = Some (record { group = prepared.logged; slots = slots.items });
         } }
@@ -168,7 +167,7 @@ fn push_places<S: Slot>(slots: &[Held<S>], places: &mut Vec<Place>) -> Result<()
 fn write_all<S: Slot>(slots: &mut Vec<Held<S>>, bytes: &[u8]) -> Result<(), CreateFault>
     requires fits { length bytes.now ≤ 262144 }
     requires few { length slots.old.items ≤ 255 }
-    ensures written { OnOk result (AllByRecursion (λ x. Holds (S.content x) bytes.now) slots.new.items) }
+    ensures written { OnOk result (AllByRecursion (Took S.content S.len_of bytes.now) slots.new.items) }
     ensures places { map S.place_of slots.new.items ≡ map S.place_of slots.old.items }
     ensures slot { (position : ℕ) → result ≡ Err (CreateFault.Slot position) → FailsFrom S.faults slots.old.items slots.new.items 0 position }
 {
@@ -184,7 +183,7 @@ fn write_from<S: Slot>(
 ) -> Result<(), CreateFault>
     requires fits { length bytes.now ≤ 262144 }
     requires few { position + length slots.old ≤ 255 }
-    ensures written { OnOk result (IsOk before × AllByRecursion (λ x. Holds (S.content x) bytes.now) slots.new) }
+    ensures written { OnOk result (IsOk before × AllByRecursion (Took S.content S.len_of bytes.now) slots.new) }
     ensures places { map S.place_of slots.new ≡ map S.place_of slots.old }
     ensures slot { (p : ℕ) → result ≡ Err (CreateFault.Slot p) → (before ≡ Err (CreateFault.Slot p)) ⊎ FailsFrom S.faults slots.old slots.new position p }
 {
@@ -203,7 +202,7 @@ fn write_unless<S: Slot>(
     bytes: &[u8],
 ) -> Result<(), CreateFault>
     requires fits { length bytes.now ≤ 262144 }
-    ensures written { OnOk result (IsOk before × Holds (S.content slot.new) bytes.now) }
+    ensures written { OnOk result (IsOk before × Took S.content S.len_of bytes.now slot.new) }
     ensures place { S.place_of slot.new ≡ S.place_of slot.old }
     ensures slot { (p : ℕ) → result ≡ Err (CreateFault.Slot p) → (before ≡ Err (CreateFault.Slot p)) ⊎ ((p ≡ position) × HasRisen (S.faults slot.old) (S.faults slot.new)) }
 {

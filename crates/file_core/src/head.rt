@@ -108,7 +108,7 @@ impl Head {
 }
 
 /// Whether one of the units is this one.
-fn names(units: &[DeadUnit], generation: u32, position: u8) -> bool
+pub(crate) fn names(units: &[DeadUnit], generation: u32, position: u8) -> bool
     ensures { result ≡ list_any (λ (u : Unit_). (u.generation == generation) && (u.position == position)) units.now }
 {
     units.iter().any(|unit| unit.generation == generation && unit.position == position)

@@ -6,10 +6,16 @@ mod create;
 mod delete;
 mod head;
 pub mod laws;
+mod live;
 mod looks;
+mod losses;
+mod needs;
 mod note_log;
 mod noted;
 mod notes;
+mod pull;
+mod pull_groups;
+mod reading;
 mod state;
 mod stripe;
 
@@ -19,6 +25,7 @@ pub use delete::{DeletedSlots, FileParts};
 pub use looks::Look;
 pub use noted::Noted;
 pub use notes::Absent;
+pub use pull::{Part, PullRefusal, Pulled, PulledGroup};
 pub use state::FileState;
 pub use stripe::Stripe;
 

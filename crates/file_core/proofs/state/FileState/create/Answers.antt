@@ -1,8 +1,8 @@
 use Rattle.std.proofs.Common.{◌∙◌, sym, ap, subst, ℕ, List}
 use Rattle.std.specs.List.{AllByRecursion}
-use Rattle.flex_io.specs.Slots.{Holds}
 use Rattle.domains.specs.declared.group.Group.{Group}
 use Rattle.held_slots.specs.Slots.{places_from}
+use Rattle.file_core.specs.Creation.{Took}
 use Rattle.file_core.proofs.CreatedFile.{same_places}
 use Rattle.file_core.proofs.state.FileState.create.Goals as goal
 
@@ -13,5 +13,5 @@ take_inode-requires-clause-stands g c κs within =
 
 pub take_inode-requires-clause-spelled : goal.take_inode-requires-clause-spelled
 take_inode-requires-clause-spelled g c κs within =
-    subst (λ (bytes : List ℕ). AllByRecursion (λ (x : g.row.S.Denot). Holds (g.S.Slot.content x) bytes) c.write_all.new.slots.items)
+    subst (λ (bytes : List ℕ). AllByRecursion (Took g.S.Slot.content g.S.Slot.len_of bytes) c.write_all.new.slots.items)
     (c.deref-2.ensures.value ∙ c.in-Ok.ensures.text) c.in_default.ensures.written

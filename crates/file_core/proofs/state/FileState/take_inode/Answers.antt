@@ -1,6 +1,5 @@
 use Rattle.std.proofs.Common.{◌≡◌, ◌∙◌, ◌≤◌, ℕ, List, [], ◌∷◌, ◌++◌, map, Option, sym, subst, ap, length, refl, arith, length-append}
 use Rattle.std.specs.List.{AllByRecursion}
-use Rattle.flex_io.specs.Slots.{Holds}
 use Rattle.domains.specs.Level.{IsLevel}
 use Rattle.domains.specs.Place.{Place}
 use Rattle.inode_codec.specs.Inode.{inode_bytes}
@@ -18,9 +17,9 @@ use Rattle.file_core.specs.NoteLog.{NoteList}
 use Rattle.file_core.specs.StoredGroups.{AllTell, GroupSlots, StoredGroup, stored_group, list_of}
 use Rattle.file_core.specs.FileInvariant.{KeepsFile, IsHead}
 use Rattle.file_core.specs.FileView.{FileView, IsLater, layout_of, now_of}
-use Rattle.file_core.specs.Creation.{empty_inode}
+use Rattle.file_core.specs.Creation.{Took, empty_inode}
 use Rattle.file_core.proofs.FileGrowth.{KeepsFile-note, layout_after-note, epochs_up_to}
-use Rattle.file_core.proofs.CreatedFile.{KeepsSlots-created, absent_empty, all_hold, empty_inode-is, few_units, new_within}
+use Rattle.file_core.proofs.CreatedFile.{KeepsSlots-created, absent_empty, all_hold, all_long, empty_inode-is, few_units, new_within}
 use Rattle.file_core.proofs.state.FileState.take_inode.Given.{Over}
 use Rattle.file_core.proofs.state.FileState.take_inode.Goals as goal
 
@@ -51,7 +50,7 @@ keeps g c =
     let logged = c.args.prepared.logged in
     let later : _ = subst (λ (f : FileView g.row.S.Denot). IsLater c.args.view.now f) (sym c.self.view_is) c.requires.later in
     let legal = subst (λ (f : FileView g.row.S.Denot). Creates (now_of f c.args.view.now) (layout_of f) logged) (sym c.self.view_is) c.requires.legal in
-    let spelled = subst (λ (f : FileView g.row.S.Denot). AllByRecursion (λ (x : g.row.S.Denot). Holds (g.S.Slot.content x) (inode_bytes (empty_inode f.level f.shape.unit))) c.args.slots.items) (sym c.self.view_is) c.requires.spelled in
+    let spelled = subst (λ (f : FileView g.row.S.Denot). AllByRecursion (Took g.S.Slot.content g.S.Slot.len_of (inode_bytes (empty_inode f.level f.shape.unit))) c.args.slots.items) (sym c.self.view_is) c.requires.spelled in
     let requested : IsLevel l.requested = subst IsLevel c.self.invariant.1.requested c.m-requested.ensures.level in
     let few = few_units logged l.requested legal.level requested in
     let number = legal.number in
@@ -66,7 +65,8 @@ keeps g c =
     later (omega (arith, room, some)) (omega (arith, number))
     (KeepsSlots-created inside.shape inside.level l (bytes_after (told_of inside.log.notes)) [] logged _ c.requires.twice c.requires.stands (omega (arith, few))
     legal.places.distinct (new_within _ l logged.places legal.places.each)
-    (record { valid = empty_inode-is inside.level inside.shape kept.declared kept.cluster; held = all_hold g.S.Slot.content _ c.args.slots.items spelled })))
+    (record { valid = empty_inode-is inside.level inside.shape kept.declared kept.cluster; held = all_hold g.S.Slot.content g.S.Slot.len_of _ c.args.slots.items spelled })
+    (all_long g.S.Slot.content g.S.Slot.len_of _ c.args.slots.items spelled)))
 
 pub invariant_of-self : goal.invariant_of-self
 invariant_of-self g c =

@@ -1,0 +1,82 @@
+use Rattle.std.proofs.Common.{◌≡◌, ◌∙◌, ◌≤◌, ◌^◌, ◌*◌, ◌<◌, ℕ, Bool, true, false, List, map, length, Option, sym, subst, ap, arith}
+use Rattle.std.specs.List.{AllByRecursion}
+use Rattle.std.proofs.lemmas.List.{length-map}
+use Rattle.inode_codec.specs.Inode.{inode_bytes}
+use Rattle.file_history.specs.Bytes.{bytes_after}
+use Rattle.file_history.specs.Layout.{Layout, Unit_, layout_after}
+use Rattle.file_history.specs.Stored.{inode_of}
+use Rattle.file_core.specs.declared.pull.PulledGroup.{PulledGroup}
+use Rattle.file_core.specs.Notes.{told_of}
+use Rattle.file_core.specs.StoredGroups.{AllTell, GroupSlots, stored_group, list_of}
+use Rattle.file_core.specs.FileView.{FileView, bytes_of, layout_of}
+use Rattle.file_core.specs.Pulls.{AreAllPulled, MayPull, part_of}
+use Rattle.file_core.specs.PullAnswers.{ShowsGroup, ShowsInode, asks_inode}
+use Rattle.file_core.proofs.GroupLookups.{few_groups}
+use Rattle.file_core.proofs.PulledBytes.{shows_data, shows_inode}
+use Rattle.file_core.proofs.PulledSlots.{may_pull, may_pull_root, root_group, small_size}
+use Rattle.file_core.proofs.state.FileState.pull_needed.Given.{Over}
+use Rattle.file_core.proofs.state.FileState.pull_needed.Goals as goal
+
+pub pull_all-requires-clause-size : goal.pull_all-requires-clause-size
+pull_all-requires-clause-size g c =
+    let inside = c.self.inside in
+    subst (λ (n : ℕ). n ≤ 2 ^ 29) (sym c.self.invariant.1.size) (small_size inside.shape inside.level (told_of inside.log.notes) _ _ _ c.self.invariant.0.slots)
+
+pub pull_all-requires-clause-few : goal.pull_all-requires-clause-few
+pull_all-requires-clause-few g c =
+    let inside = c.self.inside in
+    let few = few_groups inside.shape inside.level (told_of inside.log.notes) _ _ _ c.self.invariant.0.slots in
+    let long = length-map inside.groups.items (stored_group g.S.Slot.place_of g.S.Slot.content g.S.Slot.len_of) in
+    let is = ap (λ (gs : List (GroupSlots g.row.S.Denot)). length gs) c.deref_mut.ensures.value in
+    omega (arith, few, long, is)
+
+pub pull_all-requires-clause-may : goal.pull_all-requires-clause-may
+pull_all-requires-clause-may g c =
+    let inside = c.self.inside in
+    let kept = c.self.invariant.0.slots in
+    subst (AllByRecursion (MayPull g.S.Slot.len_of inside.shape.unit)) (sym c.deref_mut.ensures.value)
+    (may_pull g.S.Slot.place_of g.S.Slot.content g.S.Slot.len_of inside.shape.unit inside.groups.items kept.stands kept.sized)
+
+pub pull_all-requires-clause-root : goal.pull_all-requires-clause-root
+pull_all-requires-clause-root g c =
+    let inside = c.self.inside in
+    let kept = c.self.invariant.0.slots in
+    let l = layout_after inside.level (told_of inside.log.notes) in
+    may_pull_root g.S.Slot.place_of g.S.Slot.content g.S.Slot.len_of (length (inode_bytes (inode_of inside.shape.unit l))) (list_of inside.inode)
+    kept.root_stands kept.root_sized
+
+module _ (g : Over) (c : goal.After-from_vec g) where
+  abbrev now : Layout
+  now = layout_after c.self.inside.level (told_of c.self.inside.log.notes)
+
+  pulled : AreAllPulled g.S.Slot.place_of g.S.Slot.content g.S.Slot.len_of g.S.Slot.reads c.self.inside.shape c.args.view.now now.dead now.size (part_of c.args.part.now)
+      c.self.inside.inode c.pull_all.new.inode c.self.inside.groups.items c.pull_all.new.stripes c.from_vec.result
+  pulled =
+      subst (λ (x : List Unit_ × ℕ × List (GroupSlots g.row.S.Denot) × List PulledGroup).
+      AreAllPulled g.S.Slot.place_of g.S.Slot.content g.S.Slot.len_of g.S.Slot.reads c.self.inside.shape c.args.view.now x.0 x.1 (part_of c.args.part.now)
+      c.self.inside.inode c.pull_all.new.inode x.2 c.pull_all.new.stripes x.3)
+      (λ i. (c.self.invariant.1.dead i, c.self.invariant.1.size i, c.deref_mut.ensures.value i, sym c.from_vec.ensures i)) c.in_ok-pulled.ensures.pulled
+
+pub returns-clause-shown : goal.returns-clause-shown
+returns-clause-shown g c =
+    let inside = c.self.inside in
+    let kept = c.self.invariant.0.slots in
+    let l = layout_after inside.level (told_of inside.log.notes) in
+    subst (λ (f : FileView g.row.S.Denot). AllTell g.S.Slot.content → asks_inode (layout_of f) (part_of c.args.part.now) ≡ false
+    → AllByRecursion (ShowsGroup f.shape.unit (bytes_of f)) c.from_vec.result) c.self.view_is
+    (λ tell asks. shows_data g.S.Slot.place_of g.S.Slot.content g.S.Slot.len_of g.S.Slot.reads tell inside.shape c.args.view.now l (part_of c.args.part.now)
+    (bytes_after (told_of inside.log.notes)) inside.groups.items c.pull_all.new.stripes inside.inode c.pull_all.new.inode
+    (map (stored_group g.S.Slot.place_of g.S.Slot.content g.S.Slot.len_of) (list_of inside.inode)) c.from_vec.result kept
+    (root_group g.S.Slot.place_of g.S.Slot.content g.S.Slot.len_of inside.shape l _ _ inside.inode kept) (pulled g c) asks)
+
+pub returns-clause-shown_inode : goal.returns-clause-shown_inode
+returns-clause-shown_inode g c =
+    let inside = c.self.inside in
+    let kept = c.self.invariant.0.slots in
+    let l = layout_after inside.level (told_of inside.log.notes) in
+    subst (λ (f : FileView g.row.S.Denot). AllTell g.S.Slot.content → asks_inode (layout_of f) (part_of c.args.part.now) ≡ true
+    → ShowsInode f.shape.unit (layout_of f) c.from_vec.result) c.self.view_is
+    (λ tell asks. shows_inode g.S.Slot.place_of g.S.Slot.content g.S.Slot.len_of g.S.Slot.reads tell inside.shape c.args.view.now l (part_of c.args.part.now)
+    (bytes_after (told_of inside.log.notes)) inside.groups.items c.pull_all.new.stripes inside.inode c.pull_all.new.inode
+    (map (stored_group g.S.Slot.place_of g.S.Slot.content g.S.Slot.len_of) inside.groups.items) c.from_vec.result kept
+    (root_group g.S.Slot.place_of g.S.Slot.content g.S.Slot.len_of inside.shape l _ _ inside.inode kept) (pulled g c) asks)

@@ -1,0 +1,178 @@
+-- Which units a pull reads, and what it does to the slots.
+use Rattle.std.specs.Prelude.{◌≡◌, ℕ, ◌+◌, ◌-◌, ◌^◌, ◌%◌, ◌==◌, nat_lt, ◌<◌, ◌≤◌, Bool, true, false, ◌&&◌, ◌||◌, not, if◌then◌else◌, List, [], ◌∷◌, ◌++◌, map, length, Option, Some, None}
+use Rattle.flex_io.specs.Slots.{Holds}
+use Rattle.flex_io.specs.declared.raw_place.RawPlace.{RawPlace}
+use Rattle.std.specs.List.{AllByRecursion, list_any}
+use Rattle.board.specs.declared.board_view.View.{View}
+use Rattle.domains.specs.DriveSet.{has}
+use Rattle.domains.specs.Shape.{Shape, is_of}
+use Rattle.domains.specs.Place.{Place}
+use Rattle.domains.specs.declared.group.Group.{Group}
+use Rattle.domains.specs.declared.group.Lost.{Lost}
+use Rattle.rs_codes.specs.Units.{HeldUnits}
+use Rattle.file_history.specs.Layout.{Unit_}
+use Rattle.file_history.specs.Live.{Part, range, write, one, holds_byte, is_touched, is_filled_up, has_bytes_outside}
+use Rattle.file_core.specs.declared.pull.Part.{Part as Asked}
+use Rattle.file_core.specs.declared.pull.Part.TheVariants.{Range, Write, One}
+use Rattle.file_core.specs.declared.pull.PulledGroup.{PulledGroup}
+use Rattle.file_core.specs.StoredGroups.{GroupSlots}
+
+-- of the units from this position on, which are the first `need` that are live
+abbrev pub first_live : List Place → ℕ → ℕ → (ℕ → Place → Bool) → List Bool
+first_live [] need position live = []
+first_live (s ∷ ss) need position live =
+    let read : Bool = nat_lt 0 need && live position s in
+    read ∷ first_live ss (if read then need - 1 else need) (position + 1) live
+
+-- how many of these units are live, the first of which has this position
+abbrev pub count_live : List Place → ℕ → (ℕ → Place → Bool) → ℕ
+count_live [] position live = 0
+count_live (s ∷ ss) position live = (if live position s then 1 else 0) + count_live ss (position + 1) live
+
+-- the unit counts: its drive is one of the cluster that is up in the view, and it is none of the dead ones
+abbrev pub live_at : Shape → View → List Unit_ → ℕ → ℕ → Place → Bool
+live_at shape view dead generation position s =
+    (is_of shape s.drive && has view.up s.drive)
+    && not (list_any (λ (u : Unit_). (u.generation == generation) && (u.position == position)) dead)
+
+-- the elements where a flag is set
+abbrev pub chosen : {A : Type 0} → List Bool → List A → List A
+chosen [] xs = []
+chosen (f ∷ fs) [] = []
+chosen (true ∷ fs) (x ∷ xs) = x ∷ chosen fs xs
+chosen (false ∷ fs) (x ∷ xs) = chosen fs xs
+
+-- the positions, from this one on, where a flag is set
+abbrev pub positions_where : List Bool → ℕ → List ℕ
+positions_where [] position = []
+positions_where (true ∷ fs) position = position ∷ positions_where fs (position + 1)
+positions_where (false ∷ fs) position = positions_where fs (position + 1)
+
+-- whether the part needs a group of the map: of its first unit, the group, and whether it is the last
+abbrev pub needs : ℕ → ℕ → Part → ℕ → Group → Bool → Bool
+needs unit size (range offset len) start g ends = holds_byte unit size offset len start g.n
+needs unit size (write offset len width) start g ends =
+    (is_touched unit size offset len start g.n || (ends && is_filled_up unit size offset len width g.n))
+    && has_bytes_outside unit size offset len start g.n
+needs unit size (one generation) start g ends = g.generation == generation
+
+-- the part asks for this one group
+abbrev pub is_asked : Part → Group → Bool
+is_asked (range offset len) g = false
+is_asked (write offset len width) g = false
+is_asked (one generation) g = g.generation == generation
+
+-- what a part asks for
+abbrev pub part_of : Asked → Part
+part_of (Range offset len) = range offset len
+part_of (Write offset len n) = write offset len n
+part_of (One generation) = one generation
+
+-- a range to write has a byte, and ends where numbers of 32 bits can say
+abbrev pub IsPart : Part → Type 0
+IsPart (range offset len) = Unit {0}
+IsPart (write offset len width) = (1 ≤ len) × (offset + len < 2 ^ 32)
+IsPart (one generation) = Unit {0}
+
+-- the group has too few live units
+abbrev pub lost_of : Shape → View → List Unit_ → Group → Option Lost
+lost_of shape view dead g =
+    let have : ℕ = count_live g.places 0 (live_at shape view dead g.generation) in
+    if nat_lt have g.n then Some (record { generation = g.generation; have = have; need = g.n }) else None
+
+-- the first of two losses
+abbrev pub first_of : Option Lost → Option Lost → Option Lost
+first_of None later = later
+first_of (Some lost) later = Some lost
+
+-- whether a list ends here
+abbrev pub is_last : {A : Type 0} → List A → Bool
+is_last [] = true
+is_last (x ∷ xs) = false
+
+-- the length of the first slot, 0 if there is none
+abbrev pub first_len : {S : Type 0} → (S → ℕ) → List S → ℕ
+first_len len_of [] = 0
+first_len len_of (x ∷ xs) = len_of x
+
+module _ {S : Type 0} (place_of : S → RawPlace) (content : S → Option (List ℕ)) (len_of reads : S → ℕ) where
+  -- the slot, after one read that was Ok
+  pub record WasRead (old new : S) : Type 0 where
+    pub place : place_of new ≡ place_of old
+    pub content_is : content new ≡ content old
+    pub len : len_of new ≡ len_of old
+    pub reads_are : reads new ≡ (reads old + 1) % 2 ^ 64
+
+  -- where the flag is set the slot was read once, and its unit is at hand at this position; else nothing was done
+  abbrev pub IsRead : Bool → ℕ → S → S → HeldUnits → HeldUnits → Type 0
+  IsRead true position old new was now =
+      WasRead old new × (unit : List ℕ) × Holds (content old) unit
+      × (now ≡ record { unit_length = was.unit_length; positions = was.positions ++ position ∷ []; units = was.units ++ unit ∷ [] })
+  IsRead false position old new was now = (new ≡ old) × (now ≡ was)
+
+  -- the same of slots, one after the other, from this position on
+  abbrev pub AreRead : List Bool → List S → List S → ℕ → HeldUnits → HeldUnits → Type 0
+  AreRead [] [] [] position was now = now ≡ was
+  AreRead [] [] (y ∷ ys) position was now = ⊥
+  AreRead [] (x ∷ xs) ys position was now = ⊥
+  AreRead (f ∷ fs) [] ys position was now = ⊥
+  AreRead (f ∷ fs) (x ∷ xs) [] position was now = ⊥
+  AreRead (f ∷ fs) (x ∷ xs) (y ∷ ys) position was now =
+      (mid : HeldUnits) × IsRead f position x y was mid × AreRead fs xs ys (position + 1) mid now
+
+  -- the group, whose units have this length, was pulled at a view, beside these dead units: its first n live units were read, and
+  -- are at hand
+  pub record IsPulled (shape : Shape) (view : View) (dead : List Unit_) (start len : ℕ) (old new : GroupSlots S) (p : PulledGroup) : Type 0 where
+    pub group : p.group ≡ old.group
+    pub start_is : p.start ≡ start
+    pub slots : new.group ≡ old.group
+    pub read : AreRead (first_live old.group.places old.group.n 0 (live_at shape view dead old.group.generation)) old.slots new.slots 0
+        (record { unit_length = len; positions = []; units = [] }) p.have
+
+  -- a group that is needed was pulled, and is last of those pulled; another is as it was
+  abbrev pub IsPulledIf : Bool → Shape → View → List Unit_ → ℕ → GroupSlots S → GroupSlots S → List PulledGroup → List PulledGroup → Type 0
+  IsPulledIf true shape view dead start old new was done =
+      (p : PulledGroup) × IsPulled shape view dead start shape.unit old new p × (done ≡ was ++ p ∷ [])
+  IsPulledIf false shape view dead start old new was done = (new ≡ old) × (done ≡ was)
+
+  -- the same of the groups of a file of this size, the first of whose data units is this one
+  abbrev pub ArePulled : List (GroupSlots S) → List (GroupSlots S) → ℕ → Shape → View → List Unit_ → ℕ → Part → List PulledGroup → List PulledGroup → Type 0
+  ArePulled [] [] start shape view dead size part was done = done ≡ was
+  ArePulled [] (y ∷ ys) start shape view dead size part was done = ⊥
+  ArePulled (x ∷ xs) [] start shape view dead size part was done = ⊥
+  ArePulled (x ∷ xs) (y ∷ ys) start shape view dead size part was done =
+      (mid : List PulledGroup) × IsPulledIf (needs shape.unit size part start x.group (is_last xs)) shape view dead start x y was mid
+      × ArePulled xs ys (start + x.group.n) shape view dead size part mid done
+
+  -- the inode was pulled, and is the first group at hand if the part asks for its generation
+  abbrev pub IsRootPulled : Option (GroupSlots S) → Option (GroupSlots S) → Shape → View → List Unit_ → Part → List PulledGroup → Type 0
+  IsRootPulled None new shape view dead part begun = ⊥
+  IsRootPulled (Some old) None shape view dead part begun = ⊥
+  IsRootPulled (Some old) (Some new) shape view dead part begun =
+      (p : PulledGroup) × IsPulled shape view dead 0 (first_len len_of old.slots) old new p
+      × (begun ≡ (if is_asked part old.group then p ∷ [] else []))
+
+  -- the inode was pulled, and each group that the part needs. At hand are, in map order, those groups, or the inode's
+  pub record AreAllPulled (shape : Shape) (view : View) (dead : List Unit_) (size : ℕ) (part : Part) (old_root new_root : Option (GroupSlots S))
+      (old new : List (GroupSlots S)) (groups : List PulledGroup) : Type 0 where
+    pub begun : List PulledGroup
+    pub root : IsRootPulled old_root new_root shape view dead part begun
+    pub map : ArePulled old new 0 shape view dead size part begun groups
+
+module _ {S : Type 0} (len_of : S → ℕ) where
+  -- the slots of a group are as many as its places, few enough for their positions, and of the length of a unit
+  pub record MayPull (unit : ℕ) (g : GroupSlots S) : Type 0 where
+    pub few : length g.group.places ≤ 255
+    pub whole : length g.slots ≡ length g.group.places
+    pub lengths : AllByRecursion (λ (x : S). len_of x ≡ unit) g.slots
+
+  -- the same of an inode, whose units have a length of their own
+  abbrev pub MayPullRoot : GroupSlots S → Type 0
+  MayPullRoot g = MayPull (first_len len_of g.slots) g
+
+-- the first of the groups that the part needs and that has too few live units
+abbrev pub lost_from : List Group → ℕ → Shape → View → List Unit_ → ℕ → Part → Option Lost
+lost_from [] start shape view dead size part = None
+lost_from (g ∷ gs) start shape view dead size part =
+    first_of (if needs shape.unit size part start g (is_last gs) then lost_of shape view dead g else None)
+    (lost_from gs (start + g.n) shape view dead size part)
