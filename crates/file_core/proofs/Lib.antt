@@ -9,3 +9,4 @@ pub mod PullLemmas
 pub mod PullCauses
 pub mod PulledSlots
 pub mod PulledBytes
+pub mod StoredPlacesLemmas

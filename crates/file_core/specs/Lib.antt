@@ -9,3 +9,4 @@ pub mod Accounts
 pub mod Examples
 pub mod Pulls
 pub mod PullAnswers
+pub mod StoredPlaces
