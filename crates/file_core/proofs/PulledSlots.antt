@@ -75,11 +75,6 @@ module _ {S : Type 0} (place_of : S → RawPlace) (content : S → Option (List 
           same : s.group ∷ [] ≡ g ∷ [] → g ≡ s.group
           same h = cc
 
-  -- a file that is there has an inode
-  pub some_root : (inode : Option (GroupSlots S)) → is_there (group_of inode) ≡ true → IsSome inode
-  some_root None there = there
-  some_root (Some s) there = refl
-
 -- no file is larger than the format allows
 pub small_size : (shape : Shape) (declared : Level) (log : List NotedEntry) (bytes : List ℕ) (groups inode : List StoredGroup)
     → KeepsSlots shape (layout_after declared log) bytes groups inode → (layout_after declared log).size ≤ 2 ^ 29

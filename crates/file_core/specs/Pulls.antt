@@ -35,19 +35,6 @@ live_at shape view dead generation position s =
     (is_of shape s.drive && has view.up s.drive)
     && not (list_any (λ (u : Unit_). (u.generation == generation) && (u.position == position)) dead)
 
--- the elements where a flag is set
-abbrev pub chosen : {A : Type 0} → List Bool → List A → List A
-chosen [] xs = []
-chosen (f ∷ fs) [] = []
-chosen (true ∷ fs) (x ∷ xs) = x ∷ chosen fs xs
-chosen (false ∷ fs) (x ∷ xs) = chosen fs xs
-
--- the positions, from this one on, where a flag is set
-abbrev pub positions_where : List Bool → ℕ → List ℕ
-positions_where [] position = []
-positions_where (true ∷ fs) position = position ∷ positions_where fs (position + 1)
-positions_where (false ∷ fs) position = positions_where fs (position + 1)
-
 -- whether the part needs a group of the map: of its first unit, the group, and whether it is the last
 abbrev pub needs : ℕ → ℕ → Part → ℕ → Group → Bool → Bool
 needs unit size (range offset len) start g ends = holds_byte unit size offset len start g.n
