@@ -1,5 +1,5 @@
 -- A file that is created, and one that is deleted.
-use Rattle.std.proofs.Common.{◌≡◌, ℕ, zero, suc, ◌<◌, ◌≤◌, false, List, [], ◌∷◌, length, map, get_or, Option, Some, None, refl, sym, ap, subst, ◌∙◌, arith, append-nil, lit≤}
+use Rattle.std.proofs.Common.{◌≡◌, ℕ, zero, suc, ◌<◌, ◌≤◌, false, List, [], ◌∷◌, length, map, get_or, Option, Some, None, Result, Ok, Err, IfOk, refl, sym, ap, subst, ◌∙◌, arith, append-nil, lit≤}
 use Rattle.std.specs.List.{AllByRecursion}
 use Rattle.std.proofs.lemmas.Bool.{false≢true}
 use Rattle.std.proofs.lemmas.List.{length-map}
@@ -145,6 +145,7 @@ module _ {S : Type 0} (content : S → Content) (len_of : S → ℕ) where
   all_long bytes [] all = tt
   all_long bytes (x ∷ xs) all = (all.0.len, all_long bytes xs all.1)
 
--- slots at the same places
-pub same_places : {S : Type 0} (place_of : S → RawPlace) (xs ys : List S) → map place_of xs ≡ map place_of ys → places_from place_of xs ≡ places_from place_of ys
-same_places place_of xs ys same = sym (map-map place_from place_of xs) ∙ ap (map place_from) same ∙ map-map place_from place_of ys
+-- what follows from a clause on an answer
+pub if_ok_then : {T E : Type 0} (P Q : T → Type 0) (result : Result T E) → ((x : T) → P x → Q x) → IfOk result P → IfOk result Q
+if_ok_then P Q (Ok x) follows holds = follows x holds
+if_ok_then P Q (Err e) follows holds = holds

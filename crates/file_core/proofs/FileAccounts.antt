@@ -86,12 +86,12 @@ balance (n ∷ ns) declared l p =
 pub accounts_balance : AccountsBalance
 accounts_balance declared p notes = let all = balance notes declared (empty_layout declared) p in omega (arith, all)
 
-placed_in-append : (notes more : List (Note Noted)) (counts : Counting) (p : Place → Bool)
+pub placed_in-append : (notes more : List (Note Noted)) (counts : Counting) (p : Place → Bool)
     → placed_in (notes ++ more) counts p ≡ placed_in notes counts p + placed_in more counts p
 placed_in-append [] more counts p = omega arith
 placed_in-append (n ∷ ns) more counts p = let rest = placed_in-append ns more counts p in omega (arith, rest)
 
-taken_in-append : (notes more : List (Note Noted)) (declared : Level) (l : Layout) (counts : Counting) (p : Place → Bool)
+pub taken_in-append : (notes more : List (Note Noted)) (declared : Level) (l : Layout) (counts : Counting) (p : Place → Bool)
     → taken_in (notes ++ more) declared l counts p ≡ taken_in notes declared l counts p + taken_in more declared (layout_from (told_of notes) declared l) counts p
 taken_in-append [] more declared l counts p = omega arith
 taken_in-append (n ∷ ns) more declared l counts p =

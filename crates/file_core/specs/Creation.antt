@@ -1,7 +1,6 @@
 -- What a creation does.
-use Rattle.std.specs.Prelude.{◌≡◌, ℕ, ◌+◌, ◌⊎◌, List, [], ◌∷◌, length, map, Option, Some}
+use Rattle.std.specs.Prelude.{◌≡◌, ℕ, List, [], length, Option, Some}
 use Rattle.flex_io.specs.Slots.{Holds}
-use Rattle.flex_io.specs.Faults.{HasRisen}
 use Rattle.flex_io.specs.declared.raw_place.RawPlace.{RawPlace}
 use Rattle.domains.specs.Level.{Level}
 use Rattle.domains.specs.declared.by.By.{By}
@@ -24,22 +23,13 @@ module _ {S : Type 0} (content : S → Option (List ℕ)) (len_of : S → ℕ) w
     pub held : Holds (content x) bytes
     pub len : len_of x ≡ length bytes
 
-module _ {S : Type 0} (faults : S → ℕ) where
-  -- of the slots from this position on, the one at `p` failed
-  abbrev pub FailsFrom : List S → List S → ℕ → ℕ → Type 0
-  FailsFrom [] ys position p = ⊥
-  FailsFrom (x ∷ xs) [] position p = ⊥
-  FailsFrom (x ∷ xs) (y ∷ ys) position p = ((p ≡ position) × HasRisen (faults x) (faults y)) ⊎ FailsFrom xs ys (position + 1) p
-
 module _ {S : Type 0} (place_of : S → RawPlace) where
   -- the group of an inode whose units stand on these slots
   abbrev pub inode_group : Layout → List S → Group
   inode_group l slots = record { generation = l.next; n = 1; m = l.requested.m; places = places_from place_of slots }
 
-  -- the file was created on these slots
-  pub record IsCreated (by : By) (view : View) (slots : List S) (old new : FileView S) : Type 0 where
-    pub now : List S
-    pub places : map place_of now ≡ map place_of slots
-    pub is : new ≡ record (with_note old (noted by view (Created (inode_group (layout_of old) slots)) [])) {
-      inode = Some (record { group = inode_group (layout_of old) slots; slots = now });
-    }
+  -- the file, once it is created on these slots
+  abbrev pub created_on : By → View → List S → FileView S → FileView S
+  created_on by view slots f = record (with_note f (noted by view (Created (inode_group (layout_of f) slots)) [])) {
+    inode = Some (record { group = inode_group (layout_of f) slots; slots = slots });
+  }

@@ -1,14 +1,12 @@
 //! The turn that creates a file.
 
-ghost use Rattle.std.specs.Prelude.{◌≡◌, ℕ, ◌≤◌, ◌<◌, ◌++◌, ◌+◌, ◌⊎◌, [], Some, Err, IsOk, length, map, IfErr, IfOk, OnOk, OnErr};
+ghost use Rattle.std.specs.Prelude.{◌≡◌, ◌≤◌, ◌++◌, [], Some, length, IfErr, IfOk, OnOk, OnErr};
 ghost use Rattle.std.specs.List.{AllByRecursion};
-ghost use Rattle.flex_io.specs.Faults.{HasRisen};
 ghost use Rattle.domains.specs.Place.{IsPlace, IsPlaceOf};
-ghost use Rattle.domains.specs.AtLevel.{InodeAt};
 ghost use Rattle.held_slots.specs.Slots.{places_from};
 ghost use Rattle.file_history.specs.Step.{Creates};
 ghost use Rattle.inode_codec.specs.Inode.{inode_bytes};
-ghost use Rattle.file_core.specs.Creation.{FailsFrom, IsCreated, Took, empty_inode, inode_group};
+ghost use Rattle.file_core.specs.Creation.{Took, created_on, empty_inode, inode_group};
 ghost use Rattle.file_core.specs.FileView.{IsFile, IsLater, layout_of, now_of, with_note};
 ghost use Rattle.file_core.specs.Notes.{noted};
 
@@ -17,75 +15,24 @@ use crate::stripe::Stripe;
 use board::View;
 use domains::{By, Group, Place};
 use file_history::FileEvent;
-use flex_io::{Fault, Slot};
+use flex_io::Slot;
 use held_slots::Held;
 use inode_codec::Inode;
 use lists::List;
 use std::alloc::{AllocError, Global};
-use thiserror::Error;
 
-/// Why an inode was not placed: a slot at this position failed, or no memory was there.
-#[derive(Clone, Copy, Debug, PartialEq, Eq, Error)]
-pub enum CreateFault {
-    #[error("the slot at position {position} failed")]
-    Slot { position: u8 },
-    #[error("out of memory")]
-    NoMemory,
-}
-
-/// What a creation prepares before it changes anything.
+/// The group of a new inode, for the log and for the file.
 #[derive(Drop)]
-struct Prepared {
-    /// The inode's group, for the log and for the file.
+struct InodeGroups {
     logged: Group,
     kept: Group,
-    text: Vec<u8>,
 }
 
 impl<S: Slot + Send + Drop> FileState<S> {
-    /// Creates the file at its declared level: writes its inode to the slots, which are new places for a group at the level, and
-    /// takes them in. An error hands the slots back, some of them written, and leaves the file as it was.
-    #[tactic(auto, using(crate::proofs::CreatedFile::new_within))]
-    pub fn create(
-        &mut self,
-        alloc: Global,
-        by: By,
-        view: &View,
-        slots: List<Held<S>>,
-    ) -> Result<(), (CreateFault, List<Held<S>>)>
-        requires spare { 1 ≤ self.old.spare }
-        requires later { IsLater view.now self.old }
-        requires legal { Creates (now_of self.old view.now) (layout_of self.old) (inode_group S.place_of (layout_of self.old) slots) }
-        ensures created { OnOk result (IsCreated S.place_of by view.now slots self.old self.new) }
-        ensures kept { OnErr result (self.new ≡ self.old) }
-        ensures back { IfErr result (λ refused. map S.place_of refused.1 ≡ map S.place_of slots) }
-        ensures slot { IfErr result (λ refused. (position : ℕ) → refused.0 ≡ CreateFault.Slot position → FailsFrom S.faults slots refused.1 0 position) }
-        ensures file { IsFile S.place_of S.content S.len_of self.new }
-    {
-        let mut slots = slots.into_vec();
-        let prepared = match self.prepare(alloc, &slots) {
-            Ok(prepared) => prepared,
-            Err(AllocError) => return Err((CreateFault::NoMemory, List::from_vec(slots))),
-        };
-        if let Err(fault) = write_all(&mut slots, &prepared.text) {
-            return Err((fault, List::from_vec(slots)));
-        }
-        self.take_inode(by, view, prepared, slots);
-        Ok(())
-    }
-}
-
-impl<S: Slot + Send + Drop> FileState<S> {
-    /// The inode's group on these slots, and its text.
-    fn prepare(&self, alloc: Global, slots: &[Held<S>]) -> Result<Prepared, AllocError>
-        requires places { AllByRecursion (IsPlaceOf self.now.shape) (places_from S.place_of slots.now) }
-        requires level { InodeAt (inode_group S.place_of (layout_of self.now) slots.now) (layout_of self.now).requested }
-        ensures fits { IfOk result (λ made. length made.text.items ≤ 262144) }
-        ensures few { length slots.now ≤ 8 }
-        ensures file { IsFile S.place_of S.content S.len_of self.now }
-        ensures logged { IfOk result (λ made. made.logged ≡ inode_group S.place_of (layout_of self.now) slots.now) }
-        ensures kept { IfOk result (λ made. made.kept ≡ inode_group S.place_of (layout_of self.now) slots.now) }
-        ensures text { IfOk result (λ made. made.text.items ≡ inode_bytes (empty_inode self.now.level self.now.shape.unit)) }
+    /// The bytes of the inode of a new file, which has its declared level.
+    pub fn new_inode(&self, alloc: Global) -> Result<Vec<u8>, AllocError>
+        ensures text { IfOk result (λ text. text.items ≡ inode_bytes (empty_inode self.now.level self.now.shape.unit)) }
+        ensures fits { IfOk result (λ text. length text.items ≤ 262144) }
     {
         let inode = Inode {
             level: self.level,
@@ -94,48 +41,84 @@ impl<S: Slot + Send + Drop> FileState<S> {
             groups: List::new(alloc),
         };
         let _level = self.level.w();
-        let _requested = self.head.requested.m();
-        Ok(Prepared {
+        inode_codec::write(alloc, &inode)
+    }
+
+    /// Creates the file at its declared level, on slots that hold its inode (`FileState::new_inode`). They are new places for a
+    /// group at the level. An error hands the slots back and leaves the file as it was.
+    #[tactic(auto, using(crate::proofs::CreatedFile::new_within))]
+    pub fn create(
+        &mut self,
+        alloc: Global,
+        by: By,
+        view: &View,
+        slots: List<Held<S>>,
+    ) -> Result<(), (AllocError, List<Held<S>>)>
+        requires spare { 1 ≤ self.old.spare }
+        requires later { IsLater view.now self.old }
+        requires legal { Creates (now_of self.old view.now) (layout_of self.old) (inode_group S.place_of (layout_of self.old) slots) }
+        requires spelled { AllByRecursion (Took S.content S.len_of (inode_bytes (empty_inode self.old.level self.old.shape.unit))) slots }
+        ensures created { OnOk result (self.new ≡ created_on S.place_of by view.now slots self.old) }
+        ensures kept { OnErr result (self.new ≡ self.old) }
+        ensures back { IfErr result (λ refused. refused.1 ≡ slots) }
+        ensures file { IsFile S.place_of S.content S.len_of self.new }
+    {
+        let slots = slots.into_vec();
+        let groups = match self.inode_groups(alloc, &slots) {
+            Ok(groups) => groups,
+            Err(AllocError) => return Err((AllocError, List::from_vec(slots))),
+        };
+        self.take_inode(by, view, groups, slots);
+        Ok(())
+    }
+}
+
+impl<S: Slot + Send + Drop> FileState<S> {
+    /// The inode's group on these slots, twice.
+    fn inode_groups(&self, alloc: Global, slots: &[Held<S>]) -> Result<InodeGroups, AllocError>
+        requires { AllByRecursion (IsPlaceOf self.now.shape) (places_from S.place_of slots.now) }
+        ensures file { IsFile S.place_of S.content S.len_of self.now }
+        ensures logged { IfOk result (λ made. made.logged ≡ inode_group S.place_of (layout_of self.now) slots.now) }
+        ensures kept { IfOk result (λ made. made.kept ≡ inode_group S.place_of (layout_of self.now) slots.now) }
+    {
+        Ok(InodeGroups {
             logged: self.inode_group(alloc, slots)?,
             kept: self.inode_group(alloc, slots)?,
-            text: inode_codec::write(alloc, &inode)?,
         })
     }
 
     /// The group of an inode on these slots, with the next generation and the requested level.
     fn inode_group(&self, alloc: Global, slots: &[Held<S>]) -> Result<Group, AllocError>
-        requires { AllByRecursion IsPlace (places_from S.place_of slots.now) }
-        ensures { IfOk result (λ made. made ≡ inode_group S.place_of (layout_of self.now) slots.now) }
+        requires { AllByRecursion (IsPlaceOf self.now.shape) (places_from S.place_of slots.now) }
+        ensures file { IsFile S.place_of S.content S.len_of self.now }
+        ensures group { IfOk result (λ made. made ≡ inode_group S.place_of (layout_of self.now) slots.now) }
     {
+        let (generation, m) = (self.head.next, self.head.requested.m());
         let mut places = Vec::new(alloc);
         push_places(slots, &mut places)?;
         Ok(Group {
-            generation: self.head.next,
+            generation,
             n: 1,
-            m: self.head.requested.m(),
+            m,
             places: List::from_vec(places),
         })
     }
 
     /// Takes in the slots of a new inode, and notes it.
-    fn take_inode(&mut self, by: By, view: &View, prepared: Prepared, slots: Vec<Held<S>>)
+    fn take_inode(&mut self, by: By, view: &View, groups: InodeGroups, slots: Vec<Held<S>>)
         requires spare { 1 ≤ self.old.spare }
         requires later { IsLater view.now self.old }
-        requires legal { Creates (now_of self.old view.now) (layout_of self.old) prepared.logged }
-        requires twice { prepared.kept ≡ prepared.logged }
-        requires stands { places_from S.place_of slots.items ≡ prepared.logged.places }
+        requires legal { Creates (now_of self.old view.now) (layout_of self.old) groups.logged }
+        requires twice { groups.kept ≡ groups.logged }
+        requires stands { places_from S.place_of slots.items ≡ groups.logged.places }
         requires spelled { AllByRecursion (Took S.content S.len_of (inode_bytes (empty_inode self.old.level self.old.shape.unit))) slots.items }
-        ensures noted { self.new ≡ record (with_note self.old (noted by view.now (FileEvent.Created prepared.logged) [])) {
-          inode = Some (record { group = prepared.logged; slots = slots.items });
+        ensures noted { self.new ≡ record (with_note self.old (noted by view.now (FileEvent.Created groups.logged) [])) {
+          inode = Some (record { group = groups.logged; slots = slots.items });
         } }
         ensures file { IsFile S.place_of S.content S.len_of self.new }
     {
         let _requested = self.head.requested.m();
-        let Prepared {
-            logged,
-            kept,
-            text: _,
-        } = prepared;
+        let InodeGroups { logged, kept } = groups;
         self.head.create(self.level, slots.len() as u32);
         let payload = self.log.no_bytes();
         self.log.push(
@@ -161,55 +144,4 @@ fn push_places<S: Slot>(slots: &[Held<S>], places: &mut Vec<Place>) -> Result<()
     };
     places.push(first.place())?;
     push_places(rest, places)
-}
-
-/// Writes the bytes to all of the slots, up to the first that fails.
-fn write_all<S: Slot>(slots: &mut Vec<Held<S>>, bytes: &[u8]) -> Result<(), CreateFault>
-    requires fits { length bytes.now ≤ 262144 }
-    requires few { length slots.old.items ≤ 255 }
-    ensures written { OnOk result (AllByRecursion (Took S.content S.len_of bytes.now) slots.new.items) }
-    ensures places { map S.place_of slots.new.items ≡ map S.place_of slots.old.items }
-    ensures slot { (position : ℕ) → result ≡ Err (CreateFault.Slot position) → FailsFrom S.faults slots.old.items slots.new.items 0 position }
-{
-    write_from(slots, 0, Ok(()), bytes)
-}
-
-/// Writes the bytes to each of these slots, the first of which has this position, unless a slot failed before.
-fn write_from<S: Slot>(
-    slots: &mut [Held<S>],
-    position: u8,
-    before: Result<(), CreateFault>,
-    bytes: &[u8],
-) -> Result<(), CreateFault>
-    requires fits { length bytes.now ≤ 262144 }
-    requires few { position + length slots.old ≤ 255 }
-    ensures written { OnOk result (IsOk before × AllByRecursion (Took S.content S.len_of bytes.now) slots.new) }
-    ensures places { map S.place_of slots.new ≡ map S.place_of slots.old }
-    ensures slot { (p : ℕ) → result ≡ Err (CreateFault.Slot p) → (before ≡ Err (CreateFault.Slot p)) ⊎ FailsFrom S.faults slots.old slots.new position p }
-{
-    let Some((first, rest)) = slots.split_first_mut() else {
-        return before;
-    };
-    let written = write_unless(first, position, before, bytes);
-    write_from(rest, position + 1, written, bytes)
-}
-
-/// Writes the bytes to a slot, unless one failed before.
-fn write_unless<S: Slot>(
-    slot: &mut Held<S>,
-    position: u8,
-    before: Result<(), CreateFault>,
-    bytes: &[u8],
-) -> Result<(), CreateFault>
-    requires fits { length bytes.now ≤ 262144 }
-    ensures written { OnOk result (IsOk before × Took S.content S.len_of bytes.now slot.new) }
-    ensures place { S.place_of slot.new ≡ S.place_of slot.old }
-    ensures slot { (p : ℕ) → result ≡ Err (CreateFault.Slot p) → (before ≡ Err (CreateFault.Slot p)) ⊎ ((p ≡ position) × HasRisen (S.faults slot.old) (S.faults slot.new)) }
-{
-    before?;
-    match slot.slot().write(bytes) {
-        Ok(()) => Ok(()),
-        Err(Fault::Failed) => Err(CreateFault::Slot { position }),
-        Err(Fault::NoMemory) => Err(CreateFault::NoMemory),
-    }
 }

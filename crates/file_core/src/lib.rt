@@ -20,7 +20,6 @@ mod state;
 mod stripe;
 
 pub use chronicle::FileTerms;
-pub use create::CreateFault;
 pub use delete::{DeletedSlots, FileParts};
 pub use looks::Look;
 pub use noted::Noted;

@@ -4,6 +4,7 @@ ghost use Rattle.std.specs.Prelude.{◌≡◌};
 
 use domains::Group;
 use held_slots::Held;
+use lists::List;
 use std::marker::Model;
 
 /// A group, and its slots by position. Contracts see a `GroupSlots`.
@@ -26,6 +27,14 @@ impl<S> Stripe<S> {
         ensures { result.now ≡ self.now.group }
     {
         &self.group
+    }
+
+    /// The slots, by position.
+    pub fn into_slots(self) -> List<Held<S>>
+        ensures { result ≡ self.slots }
+    {
+        let Stripe { group: _, slots } = self;
+        List::from_vec(slots)
     }
 
     /// The number of the group within its file.

@@ -1,7 +1,10 @@
 //! A file that is created, noted and deleted, as its log and its slots show it.
 
-ghost use Rattle.std.specs.Prelude.{◌≡◌, ◌≤◌, ◌∷◌, [], IfOk, map};
+ghost use Rattle.std.specs.Prelude.{◌≡◌, ◌≤◌, ◌∷◌, [], IfOk, Some, length, map};
+ghost use Rattle.std.specs.List.{AllByRecursion};
 ghost use Rattle.flex_io.specs.SurePieces.{Piece};
+ghost use Rattle.inode_codec.specs.Inode.{inode_bytes};
+ghost use Rattle.file_core.specs.Creation.{Took, empty_inode};
 ghost use Rattle.file_core.specs.Examples.{IsNew, first, second, small, SeesAll};
 
 use crate::{DeletedSlots, FileParts, FileState, Stripe};
@@ -31,13 +34,17 @@ fn all_up() -> View
     }
 }
 
-/// A slot on each of the two drives.
-fn two_slots(alloc: Global) -> Result<List<Held<SurePiece>>, Fault>
-    ensures { IfOk result (λ slots. map (λ (s : Piece). s.place) slots ≡ first ∷ second ∷ []) }
+/// A slot on each of the two drives, on which the inode of the new file is written.
+fn two_slots(alloc: Global, file: &FileState<SurePiece>) -> Result<List<Held<SurePiece>>, Fault>
+    ensures places { IfOk result (λ slots. map (λ (s : Piece). s.place) slots ≡ first ∷ second ∷ []) }
+    ensures hold { IfOk result (λ slots. AllByRecursion (Took (λ (s : Piece). Some s.bytes) (λ (s : Piece). length s.bytes) (inode_bytes (empty_inode file.now.level file.now.shape.unit))) slots) }
 {
+    let bytes = file.new_inode(alloc).map_err(|_| Fault::NoMemory)?;
     let mut rack = SureRack::new(alloc);
-    let one = rack.take((1, 1), 0)?;
-    let other = rack.take((2, 1), 3)?;
+    let mut one = rack.take((1, 1), 0)?;
+    let mut other = rack.take((2, 1), 3)?;
+    one.write(&bytes)?;
+    other.write(&bytes)?;
     let mut slots = Vec::with_capacity(alloc, 2).map_err(|_| Fault::NoMemory)?;
     slots.push_reserved(Held::new(one));
     slots.push_reserved(Held::new(other));
@@ -51,14 +58,18 @@ fn create_and_delete<S: Slot + Send + Drop>(
     slots: List<Held<S>>,
 ) -> Option<DeletedSlots<S>>
     requires new { IsNew file.old }
-    requires spare { 2 ≤ file.old.spare }
     requires slots { map S.place_of slots ≡ first ∷ second ∷ [] }
+    requires spelled { AllByRecursion (Took S.content S.len_of (inode_bytes (empty_inode file.old.level file.old.shape.unit))) slots }
 {
+    if file.reserve(2).is_err() {
+        let _count = spend_all(slots);
+        return None;
+    }
     let by = By { actor: 1, call: 1 };
     let view = all_up();
     match file.create(alloc, by, &view, slots) {
         Ok(()) => file.delete(by, &view).ok(),
-        Err((_fault, slots)) => {
+        Err((AllocError, slots)) => {
             let _count = spend_all(slots);
             None
         }
@@ -67,10 +78,7 @@ fn create_and_delete<S: Slot + Send + Drop>(
 
 /// Drops the slots of a group, and answers how many bytes each held, from the last.
 fn lengths(alloc: Global, stripe: Stripe<SurePiece>) -> Result<Vec<u32>, AllocError> {
-    let Stripe {
-        group: _,
-        mut slots,
-    } = stripe;
+    let mut slots = stripe.into_slots().into_vec();
     let mut lengths = Vec::new(alloc);
     let mut kept = Ok(());
     while let Some(held) = slots.pop() {
@@ -87,8 +95,7 @@ fn spend_groups(groups: List<Stripe<SurePiece>>) -> usize {
     let count = groups.len();
     let mut groups = groups.into_vec();
     while let Some(stripe) = groups.pop() {
-        let Stripe { group: _, slots } = stripe;
-        let _count = spend_all(List::from_vec(slots));
+        let _count = spend_all(stripe.into_slots());
     }
     groups.destroy_empty();
     count
@@ -99,8 +106,8 @@ fn end(file: FileState<SurePiece>) -> (usize, usize, bool) {
     let FileParts { log, groups, inode } = file.close();
     let count = spend_groups(groups);
     match inode {
-        Some(Stripe { group: _, slots }) => {
-            let _count = spend_all(List::from_vec(slots));
+        Some(inode) => {
+            let _count = spend_all(inode.into_slots());
             (log.len(), count, true)
         }
         None => (log.len(), count, false),
@@ -109,15 +116,11 @@ fn end(file: FileState<SurePiece>) -> (usize, usize, bool) {
 
 #[test]
 fn a_file_is_created_and_deleted(rt: HostRuntime) -> Result<(), Fail> {
-    let slots = two_slots(rt.alloc())?;
     let mut file = FileState::new(rt.alloc(), 3, cluster(), Level::two_copies(), 2);
     let full = file.reserve(3);
-    let back = match file.reserve(2) {
-        Ok(()) => create_and_delete(rt.alloc(), &mut file, slots),
-        Err(_fault) => {
-            let _count = spend_all(slots);
-            None
-        }
+    let back = match two_slots(rt.alloc(), &file) {
+        Ok(slots) => create_and_delete(rt.alloc(), &mut file, slots),
+        Err(_fault) => None,
     };
     let look = file.look();
     let ended = end(file);

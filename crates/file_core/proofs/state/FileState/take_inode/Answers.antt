@@ -23,31 +23,31 @@ use Rattle.file_core.proofs.CreatedFile.{KeepsSlots-created, absent_empty, all_h
 use Rattle.file_core.proofs.state.FileState.take_inode.Given.{Over}
 use Rattle.file_core.proofs.state.FileState.take_inode.Goals as goal
 
-abbrev note : (g : Over) → goal.After-drop-prepared g → Note Noted
-note g c = record { turn = c.self.inside.turns; seat = c.self.inside.seat; entry = noted c.args.by c.args.view.now (event.Created c.args.prepared.logged) [] }
+abbrev note : (g : Over) → goal.In-None g → Note Noted
+note g c = record { turn = c.self.inside.turns; seat = c.self.inside.seat; entry = noted c.args.by c.args.view.now (event.Created c.args.groups.logged) [] }
 
-notes : (g : Over) (c : goal.After-drop-prepared g) → c.push.new.self.notes ≡ c.self.inside.log.notes ++ note g c ∷ []
+notes : (g : Over) (c : goal.In-None g) → c.push.new.self.notes ≡ c.self.inside.log.notes ++ note g c ∷ []
 notes g c =
     ap (λ (l : NoteList). l.notes) c.push.ensures
-    ∙ ap (λ (p : List ℕ). c.self.inside.log.notes ++ record { turn = c.self.inside.turns; seat = c.self.inside.seat; entry = noted c.args.by c.args.view.now (event.Created c.args.prepared.logged) p } ∷ []) c.no_bytes-payload.ensures
+    ∙ ap (λ (p : List ℕ). c.self.inside.log.notes ++ record { turn = c.self.inside.turns; seat = c.self.inside.seat; entry = noted c.args.by c.args.view.now (event.Created c.args.groups.logged) p } ∷ []) c.no_bytes-payload.ensures
 
-spare : (g : Over) (c : goal.After-drop-prepared g) → 1 ≤ c.self.inside.log.spare
+spare : (g : Over) (c : goal.In-None g) → 1 ≤ c.self.inside.log.spare
 spare g c = subst (λ (f : FileView g.row.S.Denot). 1 ≤ f.spare) (sym c.self.view_is) c.requires.spare
 
-abbrev made : (g : Over) → goal.After-drop-prepared g → GroupSlots g.row.S.Denot
-made g c = record { group = c.args.prepared.kept; slots = c.args.slots.items }
+abbrev made : (g : Over) → goal.In-None g → GroupSlots g.row.S.Denot
+made g c = record { group = c.args.groups.kept; slots = c.args.slots.items }
 
-abbrev Keeps : (g : Over) → goal.After-drop-prepared g → List (Note Noted) → List (GroupSlots g.row.S.Denot) → Option (GroupSlots g.row.S.Denot) → Type 0
+abbrev Keeps : (g : Over) → goal.In-None g → List (Note Noted) → List (GroupSlots g.row.S.Denot) → Option (GroupSlots g.row.S.Denot) → Type 0
 Keeps g c ns groups inode =
     KeepsFile (AllTell g.S.Slot.content) c.self.inside.shape c.self.inside.level c.self.inside.room ns
     (map (stored_group g.S.Slot.place_of g.S.Slot.content g.S.Slot.len_of) groups) (map (stored_group g.S.Slot.place_of g.S.Slot.content g.S.Slot.len_of) (list_of inode))
 
-keeps : (g : Over) (c : goal.After-drop-prepared g) → Keeps g c c.push.new.self.notes c.self.inside.groups.items c.replace-none.new.self
+keeps : (g : Over) (c : goal.In-None g) → Keeps g c c.push.new.self.notes c.self.inside.groups.items c.replace-none.new.self
 keeps g c =
     let inside = c.self.inside in
     let kept = c.self.invariant.0 in
     let l = layout_after inside.level (told_of inside.log.notes) in
-    let logged = c.args.prepared.logged in
+    let logged = c.args.groups.logged in
     let later : _ = subst (λ (f : FileView g.row.S.Denot). IsLater c.args.view.now f) (sym c.self.view_is) c.requires.later in
     let legal = subst (λ (f : FileView g.row.S.Denot). Creates (now_of f c.args.view.now) (layout_of f) logged) (sym c.self.view_is) c.requires.legal in
     let spelled = subst (λ (f : FileView g.row.S.Denot). AllByRecursion (Took g.S.Slot.content g.S.Slot.len_of (inode_bytes (empty_inode f.level f.shape.unit))) c.args.slots.items) (sym c.self.view_is) c.requires.spelled in
@@ -75,12 +75,12 @@ invariant_of-self g c =
     let some = spare g c in
     let left = ap (λ (l : NoteList). l.spare) c.push.ensures in
     let long = ap (λ (l : List (Note Noted)). length l) (notes g c) ∙ length-append inside.log.notes (note g c ∷ []) in
-    let legal = subst (λ (f : FileView g.row.S.Denot). Creates (now_of f c.args.view.now) (layout_of f) c.args.prepared.logged) (sym c.self.view_is) c.requires.legal in
-    let units : c.len.result ≡ length c.args.prepared.logged.places =
+    let legal = subst (λ (f : FileView g.row.S.Denot). Creates (now_of f c.args.view.now) (layout_of f) c.args.groups.logged) (sym c.self.view_is) c.requires.legal in
+    let units : c.len.result ≡ length c.args.groups.logged.places =
     c.len.ensures ∙ c.args.slots.ok.0 ∙ sym (length-map c.args.slots.items (λ (x : g.row.S.Denot). place_from (g.S.Slot.place_of x))) ∙ ap (λ (ss : List Place). length ss) c.requires.stands in (
       keeps g c,
       subst (IsHead c.create.new.self) (sym (ap (λ (ns : List (Note Noted)). layout_after inside.level (told_of ns)) (notes g c) ∙ layout_after-note inside.level inside.log.notes (note g c)))
-          (c.create.ensures (layout_after inside.level (told_of inside.log.notes)) c.args.prepared.logged c.self.invariant.1 legal.number units),
+          (c.create.ensures (layout_after inside.level (told_of inside.log.notes)) c.args.groups.logged c.self.invariant.1 legal.number units),
       omega (arith, room, some, left, long),
     )
 

@@ -1,5 +1,0 @@
-use Rattle.std.proofs.Common.{length}
-use Rattle.file_core.proofs.create.+write_from.Given as goal
-
-abbrev pub decreases-write_from : goal.decreases-write_from
-decreases-write_from g l = length l.slots.now
