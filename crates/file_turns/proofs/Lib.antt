@@ -1,0 +1,4 @@
+pub mod FileTurnLemmas
+pub mod UsableDrives
+pub mod FileRoom
+pub mod NewInode

@@ -1,0 +1,3 @@
+pub mod FileTurns
+pub mod PathRoom
+pub mod NewInodes
