@@ -4,10 +4,7 @@ use Rattle.std.specs.List.{AllByRecursion}
 use Rattle.std.proofs.lemmas.Bool.{false≢true}
 use Rattle.std.proofs.lemmas.List.{length-map}
 use Rattle.std.proofs.Math.Nat.{div-eq_of_lt}
-use Rattle.std.proofs.lemmas.Simd.{map-map}
 use Rattle.flex_io.specs.Slots.{Holds}
-use Rattle.flex_io.specs.declared.raw_place.RawPlace.{RawPlace}
-use Rattle.held_slots.specs.Slots.{place_from, places_from}
 use Rattle.domains.specs.Place.{Place, IsPlace, IsPlaceOf}
 use Rattle.domains.specs.Shape.{Shape, IsShape}
 use Rattle.domains.specs.Level.{Level, IsLevel, named_levels}
