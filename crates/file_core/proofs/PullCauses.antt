@@ -1,7 +1,5 @@
 -- Why nothing is pulled: what the code finds in the groups is what the layout says.
-use Rattle.std.proofs.Common.{◌≡◌, ℕ, ◌+◌, nat_lt, ◌||◌, ◌&&◌, ◌==◌, not, Bool, true, false, if◌then◌else◌, List, [], ◌∷◌, ◌++◌, Option, Some, None, Result, Ok, Err, IsErrOf, ◌↔◌, refl, sym, ap, subst, ◌∙◌}
-use Rattle.std.specs.List.{list_any}
-use Rattle.std.proofs.lemmas.Bool.{false≢true, true≢false}
+use Rattle.std.proofs.Common.{◌≡◌, ℕ, ◌+◌, nat_lt, Bool, true, false, if◌then◌else◌, List, [], ◌∷◌, ◌++◌, Option, Some, None, refl, sym, ap, ◌∙◌}
 use Rattle.board.specs.declared.board_view.View.{View}
 use Rattle.domains.specs.Shape.{Shape}
 use Rattle.domains.specs.Level.{Level}
@@ -9,14 +7,11 @@ use Rattle.domains.specs.Place.{Place}
 use Rattle.domains.specs.declared.group.Group.{Group}
 use Rattle.domains.specs.declared.group.Lost.{Lost}
 use Rattle.file_history.specs.World.{Moment}
-use Rattle.file_history.specs.Layout.{Layout, Unit_, group_list, all_groups}
+use Rattle.file_history.specs.Layout.{Layout, group_list}
 use Rattle.file_history.specs.Live.{Part, range, write, one, live_from, live_units, short_in, first_short, groups_with, needed_of_map}
-use Rattle.file_core.specs.declared.pull.Pulled.{Pulled}
-use Rattle.file_core.specs.declared.pull.PullRefusal.{PullRefusal}
-use Rattle.file_core.specs.declared.pull.PullRefusal.TheVariants as refusal
 use Rattle.file_core.specs.FileInvariant.{is_there}
 use Rattle.file_core.specs.Notes.{kept_view, moment_of}
-use Rattle.file_core.specs.Pulls.{count_live, first_of, is_last, live_at, lost_from, lost_of, needs}
+use Rattle.file_core.specs.Pulls.{count_live, first_of, live_at, lost_from, lost_of, needs}
 use Rattle.file_core.specs.PullAnswers.{first_cause, refusal_from, refusal_in, refusal_of, unknown_in, unknown_of}
 
 module _ (shape : Shape) (level : Level) (view : View) (l : Layout) where

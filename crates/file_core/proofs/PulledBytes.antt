@@ -1,8 +1,8 @@
 -- What the units at hand are, where all slots tell.
-use Rattle.std.proofs.Common.{◌≡◌, ℕ, ◌+◌, ◌*◌, ◌<◌, ◌≤◌, Bool, true, false, ◌||◌, if◌then◌else◌, All, List, [], ◌∷◌, ◌++◌, length, map, get_or, take, drop, replicate, Option, Some, None, IsSome, zero, suc, refl, sym, ap, subst, ◌∙◌, arith, append_assoc, append-nil, length-append}
+use Rattle.std.proofs.Common.{◌≡◌, ℕ, ◌+◌, ◌*◌, ◌<◌, Bool, true, false, ◌||◌, if◌then◌else◌, All, List, [], ◌∷◌, ◌++◌, length, map, get_or, take, drop, replicate, Option, Some, None, IsSome, zero, suc, refl, sym, ap, subst, ◌∙◌, arith, append_assoc, append-nil, length-append}
 use Rattle.std.specs.List.{AllByRecursion, flat_map, list_any}
 use Rattle.std.proofs.lemmas.Bool.{false≢true, true≢false}
-use Rattle.std.proofs.lemmas.List.{map-append, length-map}
+use Rattle.std.proofs.lemmas.List.{map-append}
 use Rattle.std.proofs.lemmas.List.Elements.{All-push}
 use Rattle.std.proofs.Math.Seq.{get_or-append_seam, take-append_seam, drop-append_seam}
 use Rattle.flex_io.specs.Slots.{Holds}
@@ -10,7 +10,7 @@ use Rattle.flex_io.specs.declared.raw_place.RawPlace.{RawPlace}
 use Rattle.board.specs.declared.board_view.View.{View}
 use Rattle.domains.specs.Shape.{Shape}
 use Rattle.domains.specs.declared.group.Group.{Group}
-use Rattle.galois.specs.Codeword.{IsCodeword, unit_at}
+use Rattle.galois.specs.Codeword.{unit_at}
 use Rattle.inode_codec.specs.Inode.{inode_bytes}
 use Rattle.rs_codes.specs.Codes.{AreUnitsOf}
 use Rattle.rs_codes.specs.Units.{HeldUnits}
@@ -19,7 +19,7 @@ use Rattle.file_history.specs.Layout.{Layout, Unit_, group_list}
 use Rattle.file_history.specs.Live.{Part}
 use Rattle.file_history.specs.Stored.{inode_of}
 use Rattle.file_core.specs.declared.pull.PulledGroup.{PulledGroup}
-use Rattle.file_core.specs.StoredGroups.{AllTell, Content, GroupSlots, StoredGroup, HoldEach, HoldRun, HoldsUnits, SpellIn, stored_group, list_of}
+use Rattle.file_core.specs.StoredGroups.{AllTell, Content, GroupSlots, StoredGroup, HoldEach, HoldRun, HoldsUnits, stored_group, list_of}
 use Rattle.file_core.specs.FileInvariant.{KeepsSlots}
 use Rattle.file_core.specs.Pulls.{AreAllPulled, ArePulled, AreRead, IsPulled, IsPulledIf, IsRead, IsRootPulled, first_live, is_asked, is_last, live_at, needs}
 use Rattle.file_core.specs.PullAnswers.{ShowsGroup, ShowsInode, asks_inode, group_of}

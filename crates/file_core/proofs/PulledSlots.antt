@@ -1,5 +1,5 @@
 -- What the slots of a file owe a pull, and what a pull leaves of the file.
-use Rattle.std.proofs.Common.{◌≡◌, ℕ, ◌+◌, ◌<◌, ◌≤◌, ◌^◌, List, [], ◌∷◌, length, map, Option, Some, None, IsSome, true, refl, sym, ap, subst, ◌∙◌, arith}
+use Rattle.std.proofs.Common.{◌≡◌, ℕ, ◌≤◌, ◌^◌, List, [], ◌∷◌, length, map, Option, Some, None, refl, sym, ap, subst, arith}
 use Rattle.std.specs.List.{AllByRecursion}
 use Rattle.std.proofs.lemmas.List.{length-map}
 use Rattle.flex_io.specs.declared.raw_place.RawPlace.{RawPlace}
@@ -13,7 +13,7 @@ use Rattle.file_history.specs.Stored.{IsRooted, inode_of}
 use Rattle.file_history.specs.declared.entry.NotedEntry.{NotedEntry}
 use Rattle.file_history.proofs.RootedLayouts.{layout_rooted}
 use Rattle.file_core.specs.StoredGroups.{GroupSlots, StoredGroup, SpellIn, StandsThere, stored_group, list_of}
-use Rattle.file_core.specs.FileInvariant.{KeepsSlots, is_there}
+use Rattle.file_core.specs.FileInvariant.{KeepsSlots}
 use Rattle.file_core.specs.Pulls.{MayPull, MayPullRoot, first_len}
 use Rattle.file_core.specs.PullAnswers.{group_of}
 

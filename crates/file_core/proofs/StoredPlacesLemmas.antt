@@ -1,5 +1,5 @@
 -- From slots by position to places.
-use Rattle.std.proofs.Common.{◌≡◌, ℕ, ◌+◌, Bool, true, false, cond, List, [], ◌∷◌, ◌++◌, map, Option, Some, None, IfSome, IsSome, replicate, refl, sym, ap, subst, ◌∙◌, append_assoc, append-nil}
+use Rattle.std.proofs.Common.{◌≡◌, ℕ, false, List, [], ◌∷◌, ◌++◌, map, Option, Some, None, IfSome, IsSome, replicate, refl, sym, ap, subst, ◌∙◌, append_assoc}
 use Rattle.std.specs.List.{AllByRecursion, flat_map}
 use Rattle.std.proofs.lemmas.List.{map-append}
 use Rattle.std.proofs.lemmas.Bool.{cond-true, cond-false, false≢true}
@@ -11,16 +11,15 @@ use Rattle.domains.specs.declared.group.Group.{Group}
 use Rattle.domains.proofs.DriveLemmas.{same_place-self}
 use Rattle.held_slots.specs.Slots.{place_from, places_from}
 use Rattle.inode_codec.specs.Inode.{inode_bytes}
-use Rattle.inode_codec.specs.declared.inode.Inode.{Inode}
 use Rattle.file_history.specs.Layout.{Layout, all_groups, group_list, places_of}
 use Rattle.file_history.specs.Step.{AreDistinct}
-use Rattle.file_history.specs.Stored.{IsStored, HoldsGroup, HoldsGroups, AreHeld, SpellsInode, inode_of}
+use Rattle.file_history.specs.Stored.{IsStored, HoldsGroups, AreHeld, SpellsInode, inode_of}
 use Rattle.file_history.proofs.DeterminedByLiveUnits.{all_left, all_right, determined}
 use Rattle.file_history.proofs.KnownContents.{AllTold, told_stored}
 use Rattle.file_history.proofs.RootedLayouts.{layout_rooted}
-use Rattle.file_core.specs.StoredGroups.{AllTell, Content, GroupSlots, StoredGroup, StandsThere, HoldEach, HoldsUnits, HoldRun, SpellIn, stored_group, list_of}
+use Rattle.file_core.specs.StoredGroups.{AllTell, Content, GroupSlots, StoredGroup, StandsThere, HoldEach, HoldRun, SpellIn, stored_group, list_of}
 use Rattle.file_core.specs.FileInvariant.{KeepsSlots}
-use Rattle.file_core.specs.FileView.{FileView, layout_of, log_of}
+use Rattle.file_core.specs.FileView.{layout_of, log_of}
 use Rattle.file_core.specs.StoredPlaces.{LiveSlotsDetermine, PlacesHoldTheFile, content_at, slots_of, told_bytes}
 
 abbrev head_or : {A : Type 0} → A → List A → A

@@ -1,5 +1,5 @@
 -- What stands at the places of a file's slots, and the laws of it.
-use Rattle.std.specs.Prelude.{◌≡◌, ℕ, if◌then◌else◌, List, [], ◌∷◌, ◌++◌, Option, None, Some}
+use Rattle.std.specs.Prelude.{ℕ, if◌then◌else◌, List, [], ◌∷◌, ◌++◌, Option, None, Some}
 use Rattle.std.specs.List.{flat_map}
 use Rattle.flex_io.specs.declared.raw_place.RawPlace.{RawPlace}
 use Rattle.board.specs.declared.board_view.View.{View}

@@ -1,8 +1,7 @@
-use Rattle.std.proofs.Common.{◌≡◌, ◌∙◌, ◌≤◌, ◌^◌, ◌*◌, ◌<◌, ℕ, List, map, length, sym, subst, ap, arith}
+use Rattle.std.proofs.Common.{◌≡◌, ◌∙◌, ◌≤◌, ◌^◌, ℕ, List, map, length, sym, subst, ap, arith}
 use Rattle.std.specs.List.{AllByRecursion}
 use Rattle.std.proofs.lemmas.List.{length-map}
-use Rattle.domains.specs.declared.group.Group.{Group}
-use Rattle.file_history.specs.Layout.{Layout, layout_after}
+use Rattle.file_history.specs.Layout.{layout_after}
 use Rattle.file_core.specs.Notes.{told_of}
 use Rattle.file_core.specs.StoredGroups.{GroupSlots, stored_group, list_of}
 use Rattle.file_core.specs.FileView.{FileView, layout_of, now_of}
