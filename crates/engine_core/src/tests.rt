@@ -209,3 +209,91 @@ fn an_engine_goes_on_from_its_own_checkpoint_alone(rt: HostRuntime) -> Result<()
     assert_eq!(rt; engine.entries(), 2);
     Ok(())
 }
+
+// Its worker is told to yield, and the item ends all the same.
+#[test]
+fn a_worker_of_a_paused_job_yields(rt: HostRuntime) -> Result<(), Fail> {
+    let mut engine = small(&rt, 100)?;
+    assert_eq!(rt; start_copy(&mut engine, 1), Ok(()));
+    let task = hand_out(&mut engine, 1).map_err(|_| "an item is to do")?;
+    if engine.reserve(1).is_ok() {
+        assert_eq!(rt; engine.pause(by(4), job(1)), Ok(Told::Changed));
+    }
+    let go = end_first(&mut engine, &task, End::Whole);
+    assert_eq!(rt; go, Some(Go::Yield));
+    Ok(())
+}
+
+// Where its last item ends, neither the end of the phase nor the finish follows.
+#[test]
+fn a_cancelled_job_does_not_finish(rt: HostRuntime) -> Result<(), Fail> {
+    let mut engine = Engine::new(rt.alloc(), Shape::new(2, 2, 1, 8), 1, 100)?;
+    assert_eq!(rt; start_scan(&mut engine, 1), Ok(()));
+    let task = hand_out(&mut engine, 8).map_err(|_| "an item is to do")?;
+    assert_eq!(rt; task.count, 1);
+    if engine.reserve(1).is_ok() {
+        assert_eq!(rt; engine.cancel(by(4), job(1)), Ok(Told::Changed));
+    }
+    let go = end_first(&mut engine, &task, End::Whole);
+    assert_eq!(rt; go, Some(Go::Yield));
+    // a start, a hand-out, the order, a progress and an end
+    assert_eq!(rt; engine.entries(), 5);
+    let bytes = engine.checkpoint(rt.alloc())?;
+    let none_active = [0x46, 0x4A, 0x43, 0x50, 1, 0, 1, 0];
+    assert_eq!(rt; bytes.as_slice(), none_active.as_slice());
+    Ok(())
+}
+
+/// Whether the engine refuses these bytes, but not for want of memory.
+fn is_refused(rt: &HostRuntime, engine: &mut Engine, bytes: &[u8]) -> bool {
+    if bytes.len() > 4096 || engine.reserve(1).is_err() {
+        return false;
+    }
+    matches!(
+        engine.restart_from(rt.alloc(), by(9), bytes),
+        Err(RestartRefusal::Bad(_) | RestartRefusal::Other { .. })
+    )
+}
+
+/// The bytes with another one at this place.
+fn with_changed(rt: &HostRuntime, bytes: &[u8], at: usize, change: u8) -> Result<Vec<u8>, Fail> {
+    let mut changed = Vec::new(rt.alloc());
+    changed.extend_from_slice(bytes)?;
+    if let Some(byte) = changed.get_mut(at) {
+        *byte = byte.wrapping_add(change);
+    }
+    Ok(changed)
+}
+
+/// Two jobs, one of them paused, with items whole, out, given back and to do.
+fn played(rt: &HostRuntime) -> Result<Engine, Fail> {
+    let mut engine = small(rt, 100)?;
+    start_scan(&mut engine, 7).map_err(|_| "the job starts")?;
+    let scan = hand_out(&mut engine, 2).map_err(|_| "an item is to do")?;
+    let _go = end_first(&mut engine, &scan, End::Whole).ok_or("the item ends")?;
+    start_copy(&mut engine, 3).map_err(|_| "the job starts")?;
+    engine.reserve(1).map_err(|_| "there is room")?;
+    let _told = engine.pause(by(4), job(7)).map_err(|_| "it is active")?;
+    let copy = hand_out(&mut engine, 1).map_err(|_| "an item is to do")?;
+    let _work = give_back_first(&mut engine, &copy, 257).ok_or("the item is out")?;
+    Ok(engine)
+}
+
+#[test]
+fn no_prefix_of_a_checkpoint_and_no_changed_byte_is_taken(rt: HostRuntime) -> Result<(), Fail> {
+    let mut engine = played(&rt)?;
+    let entries = engine.entries();
+    let bytes = engine.checkpoint(rt.alloc())?;
+    for at in 0..bytes.len() {
+        assert!(rt; is_refused(&rt, &mut engine, &bytes[..at]), "{at}");
+        for change in 1..=255 {
+            let changed = with_changed(&rt, &bytes, at, change)?;
+            assert!(rt; is_refused(&rt, &mut engine, &changed), "{at} {change}");
+        }
+    }
+    assert_eq!(rt; engine.entries(), entries);
+    if bytes.len() < 4096 && engine.reserve(1).is_ok() {
+        assert_eq!(rt; engine.restart_from(rt.alloc(), by(9), &bytes), Ok(()));
+    }
+    Ok(())
+}
