@@ -16,3 +16,6 @@ pub use name_set::NameSet;
 pub use outside::first_outside;
 pub use place::{Place, PlacedOp};
 pub use unbuilt::first_unbuilt;
+
+#[cfg(test)]
+mod tests;

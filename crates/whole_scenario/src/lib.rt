@@ -12,3 +12,6 @@ pub use op::{Op, Script};
 pub use op_line::write_op;
 pub use payload::payload_bytes;
 pub use whole::Scenario;
+
+#[cfg(test)]
+mod tests;
