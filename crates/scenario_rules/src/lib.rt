@@ -11,3 +11,6 @@ mod rule;
 
 pub use reading::{NamedScenario, read_named};
 pub use rule::{BadScenario, Rule, ScenarioFault};
+
+#[cfg(test)]
+mod tests;
