@@ -27,7 +27,7 @@ next n = omega arith
 more_suc : (n unit : ℕ) → suc n * unit ≡ n * unit + unit
 more_suc n unit = ap (λ (m : ℕ). m * unit) (next n) ∙ more_units n unit
 
--- so many units hold so many bytes, and one fewer does not
+-- m units hold z bytes, and m - 1 do not
 units_of : (unit z m : ℕ) → 1 ≤ unit → z ≤ m * unit → m * unit < z + unit → units_for unit z ≡ m
 units_of unit z m wide high low =
     let least = le-div m (z + (unit - 1)) unit (omega (arith, wide)) (omega (arith, low)) in

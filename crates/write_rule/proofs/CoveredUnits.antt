@@ -7,7 +7,7 @@ use Rattle.domains.specs.declared.group.Group.{Group}
 use Rattle.inode_codec.specs.Inode.{data_units, units_for}
 use Rattle.file_history.specs.WriteRule.{AreChunks}
 
--- groups that share so many units have so many
+-- groups that share a number of units have as many in all
 pub chunks : (gs : List Group) (count width : ℕ) → AreChunks count width (map (λ (g : Group). g.n) gs) → data_units gs ≡ count
 chunks [] count width are = sym are
 chunks (g ∷ []) count width are = let units = sum_by-cons (λ (k : Group). k.n) g [] in let same = are.0 in omega (arith, units, same)
@@ -36,7 +36,7 @@ last_holds unit offset len wide some =
     one_unit : (n unit : ℕ) → (n + 1) * unit ≡ n * unit + unit
     one_unit n unit = grind arith
 
--- the bytes of so many units, in two parts
+-- the bytes of a number of units, in two parts
 pub reach : (m a b unit bytes : ℕ) → bytes ≤ m * unit → m ≤ a + b → bytes ≤ a * unit + b * unit
 reach m a b unit bytes fits most =
     let whole = mul-le m unit (a + b) unit most (omega arith) in

@@ -24,7 +24,7 @@ AreInner [] s a b = Unit {0}
 AreInner (g ∷ []) s a b = Unit {0}
 AreInner (g ∷ h ∷ gs) s a b = (a < s + g.n) × (s + g.n ≤ b) × AreInner (h ∷ gs) (s + g.n) a b
 
--- the groups that pass are so many from this one on
+-- how many groups pass, from this one on
 pub record Picked (p : ℕ → Group → Bool → Bool) (q : ℕ → ℕ → Bool) (fills : ℕ → Bool) (a b : ℕ) (gs : List Group) (s : ℕ) : Type 0 where
   pub first : ℕ
   pub count : ℕ
@@ -40,7 +40,7 @@ pub record Picked (p : ℕ → Group → Bool → Bool) (q : ℕ → ℕ → Boo
   pub inner : AreInner (take count (drop first gs)) from a b
   pub ends : (first + count ≡ length gs) ⊎ (b < s + data_units (take first gs) + data_units (take count (drop first gs)))
 
--- the groups that pass are so many from the front
+-- how many groups pass, from the front
 record FromFront (p : ℕ → Group → Bool → Bool) (q : ℕ → ℕ → Bool) (a b : ℕ) (gs : List Group) (s : ℕ) : Type 0 where
   pub count : ℕ
   pub within : count ≤ length gs
