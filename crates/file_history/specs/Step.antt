@@ -49,7 +49,7 @@ pub record Creates (now : Moment) (l : Layout) (inode : Group) : Type 0 where
   pub number : inode.generation ≡ l.next
   pub places : AreNewPlaces now l inode.places
 
-abbrev AreAtLevel : List Group → Level → Type 0
+abbrev pub AreAtLevel : List Group → Level → Type 0
 AreAtLevel groups level = AllByRecursion (λ (g : Group). AtLevel g level) groups
 
 -- the range is written: the groups that it touches make way for new ones at the level, at new places
@@ -147,7 +147,7 @@ pub record Bars (now : Moment) (l : Layout) (drives : DriveSet) : Type 0 where
   pub new : is_barred l one ≡ false
 
 -- no unit of the group is dead or stands on one of the drives
-abbrev AreClean : List Place → ℕ → Layout → ℕ → DriveSet → Type 0
+abbrev pub AreClean : List Place → ℕ → Layout → ℕ → DriveSet → Type 0
 AreClean [] position l generation drives = Unit {0}
 AreClean (s ∷ ss) position l generation drives =
     (is_dead l generation position ≡ false) × (has drives s.drive ≡ false) × AreClean ss (position + 1) l generation drives
