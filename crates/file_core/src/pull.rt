@@ -1,6 +1,6 @@
 //! What a caller needs of a file, read from its slots.
 
-ghost use Rattle.std.specs.Prelude.{◌≡◌, ℕ, ◌↔◌, true, false, None, Some, IfOk, length};
+ghost use Rattle.std.specs.Prelude.{◌≡◌, ℕ, ◌↔◌, ◌⊎◌, true, false, None, Some, IfOk, IfErr, length};
 ghost use Rattle.std.specs.List.{AllByRecursion};
 ghost use Rattle.std.specs.Result.{IsErrOf};
 ghost use Rattle.domains.specs.declared.group.Lost.{Lost};
@@ -64,7 +64,8 @@ pub enum PullRefusal {
 
 impl<S: Slot + Steady + Send + Drop> FileState<S> {
     /// Reads the first live unit of the inode, and of each group that the part needs the first n live units by position. `Lost`
-    /// names the first group that has too few, the inode first. An error may leave some of the slots read.
+    /// names the first group that has too few, the inode first. Out of memory may leave some of the slots read; another refusal reads
+    /// none.
     pub fn pull(&mut self, alloc: Global, part: Part, view: &View) -> Result<Pulled, PullRefusal>
         requires part { IsPart (part_of part) }
         ensures pulled { IfOk result (λ p. AreAllPulled S.place_of S.content S.len_of S.reads self.old.shape view.now (layout_of self.old).dead
@@ -78,6 +79,7 @@ impl<S: Slot + Steady + Send + Drop> FileState<S> {
         ensures lost { (lost : Lost) → IsErrOf result (PullRefusal.Lost lost)
             ↔ (((layout_of self.old).present ≡ true) × (unknown_of (layout_of self.old) (part_of part) ≡ None)
             × (first_short (now_of self.old view.now) (layout_of self.old) (part_of part) ≡ Some lost)) }
+        ensures refused { IfErr result (λ refusal. (refusal ≡ PullRefusal.NoMemory) ⊎ (self.new ≡ self.old)) }
 
         // Nothing changes but the reads of slots.
         ensures kept { self.new ≡ record self.old { groups = self.new.groups; inode = self.new.inode } }
