@@ -10,3 +10,6 @@ pub mod PullCauses
 pub mod PulledSlots
 pub mod PulledBytes
 pub mod StoredPlacesLemmas
+pub mod DeadUnitLookups
+pub mod SameDeadUnits
+pub mod ClearedGroups

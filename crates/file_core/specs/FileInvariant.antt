@@ -17,6 +17,8 @@ use Rattle.file_history.specs.Stored.{inode_of}
 use Rattle.file_history.specs.declared.entry.NotedEntry.{NotedEntry}
 use Rattle.file_core.specs.declared.noted.Noted.{Noted}
 use Rattle.file_core.specs.declared.head.Head.{Head}
+use Rattle.file_history.specs.Live.{is_dead}
+use Rattle.file_core.specs.DeadUnits.{names}
 use Rattle.file_core.specs.Notes.{AreNotedSteps, last_epoch_of, told_of}
 use Rattle.file_core.specs.StoredGroups.{StoredGroup, StandsThere, HoldRun, SpellIn}
 
@@ -61,5 +63,5 @@ pub record IsHead (h : Head) (l : Layout) : Type 0 where
   pub size : h.size ≡ l.size
   pub next : h.next ≡ l.next
   pub units : h.units ≡ length (places_of (all_groups l))
-  pub dead : h.dead.items ≡ l.dead
+  pub dead : (generation position : ℕ) → names h.dead.items generation position ≡ is_dead l generation position
   pub barred : (d : Drive) → IsDrive d → has h.barred d ≡ is_barred l d

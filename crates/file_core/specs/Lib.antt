@@ -1,6 +1,7 @@
 pub mod Notes
 pub mod NoteLog
 pub mod StoredGroups
+pub mod DeadUnits
 pub mod FileInvariant
 pub mod FileView
 pub mod Looks
@@ -10,3 +11,4 @@ pub mod Examples
 pub mod Pulls
 pub mod PullAnswers
 pub mod StoredPlaces
+pub mod Clearings

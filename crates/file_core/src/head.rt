@@ -1,38 +1,19 @@
 //! What a file is, but for its groups.
 
-ghost use Rattle.std.specs.Prelude.{◌≡◌, true, ◌||◌, ◌&&◌, ◌==◌, ◌<◌, ◌-◌, ◌^◌, length};
-ghost use Rattle.std.specs.List.{list_any};
+ghost use Rattle.std.specs.Prelude.{◌≡◌, true, ◌||◌, ◌&&◌, ◌<◌, ◌-◌, ◌^◌, length};
 ghost use Rattle.domains.specs.Drive.{Drive, IsDrive, same_drive};
 ghost use Rattle.domains.specs.DriveSet.{has};
 ghost use Rattle.domains.specs.Level.{Level};
 ghost use Rattle.domains.specs.declared.group.Group.{Group};
-ghost use Rattle.file_history.specs.Layout.{Layout, Unit_, empty_layout, layout_after_event};
+ghost use Rattle.file_history.specs.Layout.{Layout, empty_layout, layout_after_event};
 ghost use Rattle.file_history.specs.Live.{is_dead};
 ghost use Rattle.file_core.specs.FileInvariant.{IsHead};
 ghost use Rattle.file_core.specs.FileView.{is_quiet};
 
+use crate::dead_units::DeadUnits;
 use domains::{DriveId, DriveSet, Level};
 use file_history::FileEvent;
 use std::alloc::Global;
-use std::marker::Model;
-
-/// A unit that an entry says is dead.
-#[derive(Clone, Copy, Drop)]
-pub(crate) struct DeadUnit {
-    pub(crate) generation: u32,
-    pub(crate) position: u8,
-}
-
-impl Model for DeadUnit {
-    ghost use Rattle.domains.specs.declared.group.Group.{Group};
-    ghost use Rattle.file_history.specs.Layout.{Unit_};
-
-    ghost Value = { Unit_ };
-
-    ghost view = { λ d. record { generation = d.generation; position = d.position } };
-
-    ghost inverse = { λ d. record { generation = d.generation; position = d.position } };
-}
 
 /// The requested level, that of the inode, the size in bytes, the next generation, how many units are held, which of them are
 /// dead, and the barred drives.
@@ -43,7 +24,7 @@ pub(crate) struct Head {
     pub(crate) size: u64,
     pub(crate) next: u32,
     pub(crate) units: u32,
-    pub(crate) dead: Vec<DeadUnit>,
+    pub(crate) dead: DeadUnits,
     pub(crate) barred: DriveSet,
 }
 
@@ -58,7 +39,7 @@ impl Head {
             size: 0,
             next: 0,
             units: 0,
-            dead: Vec::new(alloc),
+            dead: DeadUnits::new(alloc),
             barred: DriveSet::new(),
         }
     }
@@ -103,15 +84,8 @@ impl Head {
     pub(crate) fn is_dead(&self, generation: u32, position: u8) -> bool
         ensures { (l : Layout) → IsHead self.now l → result ≡ is_dead l generation position }
     {
-        names(&self.dead, generation, position)
+        self.dead.has(generation, position)
     }
-}
-
-/// Whether one of the units is this one.
-pub(crate) fn names(units: &[DeadUnit], generation: u32, position: u8) -> bool
-    ensures { result ≡ list_any (λ (u : Unit_). (u.generation == generation) && (u.position == position)) units.now }
-{
-    units.iter().any(|unit| unit.generation == generation && unit.position == position)
 }
 
 /// How many drives a set can have: 16 on each of 32 nodes.

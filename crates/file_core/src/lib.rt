@@ -2,7 +2,9 @@
 #![tactic(auto)]
 
 mod chronicle;
+mod clear;
 mod create;
+mod dead_units;
 mod delete;
 mod head;
 pub mod laws;
@@ -20,6 +22,7 @@ mod state;
 mod stripe;
 
 pub use chronicle::FileTerms;
+pub use clear::NotClear;
 pub use delete::{DeletedSlots, FileParts};
 pub use looks::Look;
 pub use noted::Noted;

@@ -3,7 +3,7 @@
 ghost use Rattle.std.specs.Prelude.{◌≡◌, ◌≤◌, ◌+◌, ◌-◌, ◌++◌, ◌&&◌, nat_lt, if◌then◌else◌, length, IfOk, OnOk};
 ghost use Rattle.file_core.specs.Pulls.{count_live, first_live, live_at};
 
-use crate::head::{Head, names};
+use crate::head::Head;
 use board::View;
 use domains::{Group, Place, Shape};
 use std::alloc::{AllocError, Global};
@@ -22,7 +22,7 @@ impl Head {
     {
         sight.shape.has(place.drive())
             && sight.view.up.has(place.drive())
-            && !names(&self.dead, generation, position)
+            && !self.dead.has(generation, position)
     }
 
     /// Which units of the group a pull reads: the first that are live, as many as the group has data units.

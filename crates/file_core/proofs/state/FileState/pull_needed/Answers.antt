@@ -1,18 +1,20 @@
-use Rattle.std.proofs.Common.{◌≡◌, ◌≤◌, ◌^◌, ℕ, true, false, List, map, length, sym, subst, ap, arith}
+use Rattle.std.proofs.Common.{◌≡◌, ◌≤◌, ◌^◌, ◌∙◌, ◌++◌, ℕ, true, false, List, map, length, drop, take, sym, subst, ap, arith}
 use Rattle.std.specs.List.{AllByRecursion}
+use Rattle.std.proofs.Math.Seq.{take-append_seam}
 use Rattle.std.proofs.lemmas.List.{length-map}
 use Rattle.inode_codec.specs.Inode.{inode_bytes}
 use Rattle.file_history.specs.Bytes.{bytes_after}
-use Rattle.file_history.specs.Layout.{Layout, Unit_, layout_after}
+use Rattle.file_history.specs.Layout.{Layout, layout_after}
 use Rattle.file_history.specs.Stored.{inode_of}
 use Rattle.file_core.specs.declared.pull.PulledGroup.{PulledGroup}
 use Rattle.file_core.specs.Notes.{told_of}
-use Rattle.file_core.specs.StoredGroups.{AllTell, GroupSlots, stored_group, list_of}
+use Rattle.file_core.specs.StoredGroups.{AllTell, GroupSlots, StoredGroup, stored_group, list_of}
 use Rattle.file_core.specs.FileView.{FileView, bytes_of, layout_of}
 use Rattle.file_core.specs.Pulls.{AreAllPulled, MayPull, part_of}
 use Rattle.file_core.specs.PullAnswers.{ShowsGroup, ShowsInode, asks_inode}
 use Rattle.file_core.proofs.GroupLookups.{few_groups}
 use Rattle.file_core.proofs.PulledBytes.{shows_data, shows_inode}
+use Rattle.file_core.proofs.SameDeadUnits.{all_same}
 use Rattle.file_core.proofs.PulledSlots.{may_pull, may_pull_root, root_group, small_size}
 use Rattle.file_core.proofs.state.FileState.pull_needed.Given.{Over}
 use Rattle.file_core.proofs.state.FileState.pull_needed.Goals as goal
@@ -52,10 +54,35 @@ module _ (g : Over) (c : goal.After-from_vec g) where
   pulled : AreAllPulled g.S.Slot.place_of g.S.Slot.content g.S.Slot.len_of g.S.Slot.reads c.self.inside.shape c.args.view.now now.dead now.size (part_of c.args.part.now)
       c.self.inside.inode c.pull_all.new.inode c.self.inside.groups.items c.pull_all.new.stripes c.from_vec.result
   pulled =
-      subst (λ (x : List Unit_ × ℕ × List (GroupSlots g.row.S.Denot) × List PulledGroup).
-      AreAllPulled g.S.Slot.place_of g.S.Slot.content g.S.Slot.len_of g.S.Slot.reads c.self.inside.shape c.args.view.now x.0 x.1 (part_of c.args.part.now)
-      c.self.inside.inode c.pull_all.new.inode x.2 c.pull_all.new.stripes x.3)
-      (λ i. (c.self.invariant.1.dead i, c.self.invariant.1.size i, c.deref_mut.ensures.value i, sym c.from_vec.ensures i)) c.in_ok-pulled.ensures.pulled
+      all_same c.self.inside.shape c.args.view.now c.self.inside.head.dead.items now.dead c.self.invariant.1.dead
+      g.S.Slot.place_of g.S.Slot.content g.S.Slot.len_of g.S.Slot.reads now.size (part_of c.args.part.now)
+      c.self.inside.inode c.pull_all.new.inode c.self.inside.groups.items c.pull_all.new.stripes c.from_vec.result
+      (subst (λ (x : ℕ × List (GroupSlots g.row.S.Denot) × List PulledGroup).
+      AreAllPulled g.S.Slot.place_of g.S.Slot.content g.S.Slot.len_of g.S.Slot.reads c.self.inside.shape c.args.view.now c.self.inside.head.dead.items x.0 (part_of c.args.part.now)
+      c.self.inside.inode c.pull_all.new.inode x.1 c.pull_all.new.stripes x.2)
+      (λ i. (c.self.invariant.1.size i, c.deref_mut.ensures.value i, sym c.from_vec.ensures i)) c.in_ok-pulled.ensures.pulled)
+
+take_front : {A : Type 0} (xs ys : List A) (n : ℕ) → n ≡ length xs → take n (xs ++ ys) ≡ xs
+take_front xs ys n is = ap (λ (k : ℕ). take k (xs ++ ys)) is ∙ take-append_seam xs ys
+
+-- as many groups as before
+back : (g : Over) (c : goal.After-from_vec g)
+    → take c.self.inside.groups.len (c.pull_all.new.stripes ++ drop (length c.pull_all.new.stripes) c.self.inside.groups.items) ≡ c.pull_all.new.stripes
+back g c =
+    let inside = c.self.inside in
+    let shows = stored_group g.S.Slot.place_of g.S.Slot.content g.S.Slot.len_of in
+    let new = length-map c.pull_all.new.stripes shows in
+    let old = length-map c.deref_mut.result.now shows in
+    let same = ap (λ (gs : List StoredGroup). length gs) c.in_ok-pulled.ensures.shown in
+    let was = ap (λ (gs : List (GroupSlots g.row.S.Denot)). length gs) c.deref_mut.ensures.value in
+    let count = inside.groups.ok.0 in
+    take_front c.pull_all.new.stripes (drop (length c.pull_all.new.stripes) inside.groups.items) inside.groups.len (omega (arith, new, old, same, was, count))
+
+pub returns-clause-pulled : goal.returns-clause-pulled
+returns-clause-pulled g c =
+    subst (λ (x : FileView g.row.S.Denot × List (GroupSlots g.row.S.Denot)).
+    AreAllPulled g.S.Slot.place_of g.S.Slot.content g.S.Slot.len_of g.S.Slot.reads x.0.shape c.args.view.now (layout_of x.0).dead (layout_of x.0).size (part_of c.args.part.now)
+    x.0.inode c.pull_all.new.inode x.0.groups x.1 c.from_vec.result) (λ i. (c.self.view_is i, sym (back g c) i)) (pulled g c)
 
 pub returns-clause-shown : goal.returns-clause-shown
 returns-clause-shown g c =

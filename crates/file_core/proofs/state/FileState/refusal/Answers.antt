@@ -9,6 +9,7 @@ use Rattle.file_core.specs.Pulls.{part_of}
 use Rattle.file_core.specs.PullAnswers.{group_of, refusal_in, refusal_of}
 use Rattle.file_core.proofs.GroupLookups.{few_groups, groups_of}
 use Rattle.file_core.proofs.PullCauses.{refusal_is}
+use Rattle.file_core.proofs.SameDeadUnits.{refusal_same}
 use Rattle.file_core.proofs.PulledSlots.{few_places, root_group, small_size}
 use Rattle.file_core.proofs.state.FileState.refusal.Goals as goal
 
@@ -43,7 +44,8 @@ returns-clause-value g c =
     ap (map (λ (s : GroupSlots g.row.S.Denot). s.group)) c.deref.ensures.value
     ∙ groups_of g.S.Slot.place_of g.S.Slot.content g.S.Slot.len_of inside.shape l _ inside.groups.items _ kept in
     c.refusal.ensures
-    ∙ (λ i. refusal_in (group_of inside.inode) (groups i) inside.shape c.args.view.now (c.self.invariant.1.dead i) (c.self.invariant.1.size i) (part_of c.args.part.now))
+    ∙ (λ i. refusal_in (group_of inside.inode) (groups i) inside.shape c.args.view.now inside.head.dead.items (c.self.invariant.1.size i) (part_of c.args.part.now))
+    ∙ refusal_same inside.shape c.args.view.now inside.head.dead.items l.dead c.self.invariant.1.dead (group_of inside.inode) l.groups l.size (part_of c.args.part.now)
     ∙ refusal_is inside.shape inside.level c.args.view.now l (group_of inside.inode) (part_of c.args.part.now)
     (root_group g.S.Slot.place_of g.S.Slot.content g.S.Slot.len_of inside.shape l _ _ inside.inode kept) kept.there
     ∙ ap (λ (f : FileView g.row.S.Denot). refusal_of (now_of f c.args.view.now) (layout_of f) (part_of c.args.part.now)) c.self.view_is
