@@ -8,6 +8,7 @@ pub mod ExampleFile
 pub mod PullLemmas
 pub mod PullCauses
 pub mod PulledSlots
+pub mod DecodableGroups
 pub mod PulledBytes
 pub mod StoredPlacesLemmas
 pub mod DeadUnitLookups

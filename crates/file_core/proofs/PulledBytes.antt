@@ -1,7 +1,7 @@
 -- What the units at hand are, where all slots tell.
 use Rattle.std.proofs.Common.{◌≡◌, ℕ, ◌+◌, ◌*◌, ◌<◌, Bool, true, false, ◌||◌, if◌then◌else◌, All, List, [], ◌∷◌, ◌++◌, length, map, get_or, take, drop, replicate, Option, Some, None, IsSome, zero, suc, refl, sym, ap, subst, ◌∙◌, arith, append_assoc, append-nil, length-append}
 use Rattle.std.specs.List.{AllByRecursion, flat_map, list_any}
-use Rattle.std.proofs.lemmas.Bool.{false≢true, true≢false}
+use Rattle.std.proofs.lemmas.Bool.{false≢true}
 use Rattle.std.proofs.lemmas.List.{map-append}
 use Rattle.std.proofs.lemmas.List.Elements.{All-push}
 use Rattle.std.proofs.Math.Seq.{get_or-append_seam, take-append_seam, drop-append_seam}
@@ -21,12 +21,9 @@ use Rattle.file_history.specs.Stored.{inode_of}
 use Rattle.file_core.specs.declared.pull.PulledGroup.{PulledGroup}
 use Rattle.file_core.specs.StoredGroups.{AllTell, Content, GroupSlots, StoredGroup, HoldEach, HoldRun, HoldsUnits, stored_group, list_of}
 use Rattle.file_core.specs.FileInvariant.{KeepsSlots}
-use Rattle.file_core.specs.Pulls.{AreAllPulled, ArePulled, AreRead, IsPulled, IsPulledIf, IsRead, IsRootPulled, first_live, is_asked, is_last, live_at, needs}
+use Rattle.file_core.specs.Pulls.{AreAllPulled, ArePulled, AreRead, IsPulled, IsPulledIf, IsRead, first_live, is_asked, is_last, live_at, needs}
 use Rattle.file_core.specs.PullAnswers.{ShowsGroup, ShowsInode, asks_inode, group_of}
-
-All_push : {A : Type 0} (P : A → Type 0) (xs : List A) (x : A) → AllByRecursion P xs → P x → AllByRecursion P (xs ++ x ∷ [])
-All_push P [] x all here = (here, tt)
-All_push P (y ∷ ys) x all here = (all.0, All_push P ys x all.1 here)
+use Rattle.file_core.proofs.DecodableGroups.{All_push, none_begun}
 
 All_take : {A : Type 0} (P : A → Type 0) (n : ℕ) (xs : List A) → AllByRecursion P xs → AllByRecursion P (take n xs)
 All_take P zero xs all = tt
@@ -195,17 +192,7 @@ module _ {S : Type 0} (place_of : S → RawPlace) (content : S → Option (List 
       → AllByRecursion (ShowsGroup shape.unit bytes) groups
   shows_data shape view l part bytes xs ys root root' inode groups kept is pulled asks =
       shows_run shape view l.dead l.size part bytes kept.zeros xs ys 0 [] (bytes ++ replicate kept.zeros 0) pulled.begun groups kept.run refl (sym (nothing shape.unit)) pulled.map
-      (subst (AllByRecursion (ShowsGroup shape.unit bytes)) (sym (none_begun root root' pulled.root (sym (ap (λ (o : Option Group). list_any (is_asked part) (group_list o)) is) ∙ asks))) tt)
-    where
-      no_group : (b : Bool) (p : PulledGroup) → (b || false) ≡ false → (if b then p ∷ [] else []) ≡ []
-      no_group true p h = absurd (true≢false h)
-      no_group false p h = refl
-
-      none_begun : (root root' : Option (GroupSlots S)) → IsRootPulled place_of content len_of reads root root' shape view l.dead part pulled.begun
-          → list_any (is_asked part) (group_list (group_of root)) ≡ false → pulled.begun ≡ []
-      none_begun None root' is asks = absurd is
-      none_begun (Some old) None is asks = absurd is
-      none_begun (Some old) (Some new) is asks = is.2 ∙ no_group (is_asked part old.group) is.0 asks
+      (subst (AllByRecursion (ShowsGroup shape.unit bytes)) (sym (none_begun place_of content len_of reads shape view l.dead part root root' pulled.begun pulled.root (sym (ap (λ (o : Option Group). list_any (is_asked part) (group_list o)) is) ∙ asks))) tt)
 
   -- the inode at hand
   pub shows_inode : (shape : Shape) (view : View) (l : Layout) (part : Part) (bytes : List ℕ) (xs ys : List (GroupSlots S)) (root root' : Option (GroupSlots S))

@@ -1,12 +1,12 @@
 -- What a pull answers.
-use Rattle.std.specs.Prelude.{◌≡◌, ℕ, ◌*◌, ◌==◌, Bool, true, false, if◌then◌else◌, List, [], ◌∷◌, ◌++◌, length, take, replicate, Option, Some, None}
+use Rattle.std.specs.Prelude.{◌≡◌, ℕ, ◌+◌, ◌*◌, ◌<◌, ◌==◌, Bool, true, false, if◌then◌else◌, All, List, [], ◌∷◌, ◌++◌, length, take, replicate, Option, Some, None}
 use Rattle.std.specs.List.{AllByRecursion, flat_map, list_any}
 use Rattle.board.specs.declared.board_view.View.{View}
 use Rattle.domains.specs.Shape.{Shape}
 use Rattle.domains.specs.declared.group.Group.{Group}
 use Rattle.domains.specs.declared.group.Lost.{Lost}
 use Rattle.inode_codec.specs.Inode.{inode_bytes}
-use Rattle.rs_codes.specs.Codes.{AreUnitsOf}
+use Rattle.rs_codes.specs.Codes.{AreUnitsOf, IsCodeSize}
 use Rattle.file_history.specs.World.{Moment}
 use Rattle.file_history.specs.Bytes.{slice_of}
 use Rattle.file_history.specs.Layout.{Layout, Unit_, all_groups, group_list}
@@ -53,6 +53,13 @@ abbrev pub refusal_in : Option Group → List Group → Shape → View → List 
 refusal_in None groups shape view dead size part = Some refusal.Absent
 refusal_in (Some g) groups shape view dead size part =
     first_cause (unknown_in (groups ++ g ∷ []) part) (first_of (lost_of shape view dead g) (lost_from groups 0 shape view dead size part))
+
+-- as many units of this length are at hand as give the group's data units
+pub record CanDecode (unit : ℕ) (p : PulledGroup) : Type 0 where
+  pub size : IsCodeSize p.group.n p.group.m
+  pub enough : length p.have.positions ≡ p.group.n
+  pub positions : All (λ (q : ℕ). q < p.group.n + p.group.m) p.have.positions
+  pub unit_is : p.have.unit_length ≡ unit
 
 -- the units at hand are those of a codeword whose data units are the group's part of the file: the bytes, and zeros past their end
 pub record ShowsGroup (unit : ℕ) (bytes : List ℕ) (p : PulledGroup) : Type 0 where

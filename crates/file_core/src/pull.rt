@@ -9,7 +9,7 @@ ghost use Rattle.file_core.specs.StoredGroups.{AllTell};
 ghost use Rattle.file_core.specs.FileView.{IsFile, bytes_of, layout_of, now_of, stored_groups, stored_inode};
 ghost use Rattle.file_core.specs.Looks.{IsLook};
 ghost use Rattle.file_core.specs.Pulls.{AreAllPulled, IsPart, part_of};
-ghost use Rattle.file_core.specs.PullAnswers.{ShowsGroup, ShowsInode, asks_inode, refusal_of, unknown_of};
+ghost use Rattle.file_core.specs.PullAnswers.{CanDecode, ShowsGroup, ShowsInode, asks_inode, refusal_of, unknown_of};
 
 use crate::live::Sight;
 use crate::looks::Look;
@@ -86,6 +86,10 @@ impl<S: Slot + Steady + Send + Drop> FileState<S> {
         ensures same { stored_groups S.place_of S.content S.len_of self.new ≡ stored_groups S.place_of S.content S.len_of self.old }
         ensures same_inode { stored_inode S.place_of S.content S.len_of self.new ≡ stored_inode S.place_of S.content S.len_of self.old }
 
+        // The groups of the map at hand can be decoded, whatever the slots hold.
+        ensures decodes { asks_inode (layout_of self.old) (part_of part) ≡ false
+            → IfOk result (λ p. AllByRecursion (CanDecode self.old.shape.unit) p.groups) }
+
         // What the units at hand show, where all slots tell.
         ensures shown { AllTell S.content → asks_inode (layout_of self.old) (part_of part) ≡ false
             → IfOk result (λ p. AllByRecursion (ShowsGroup self.old.shape.unit (bytes_of self.old)) p.groups) }
@@ -125,11 +129,14 @@ impl<S: Slot + Steady + Send + Drop> FileState<S> {
     ) -> Result<List<PulledGroup>, AllocError>
         requires part { IsPart (part_of part.now) }
         requires present { (layout_of self.old).present ≡ true }
+        requires enough { refusal_of (now_of self.old view.now) (layout_of self.old) (part_of part.now) ≡ None }
         ensures pulled { IfOk result (λ groups. AreAllPulled S.place_of S.content S.len_of S.reads self.old.shape view.now (layout_of self.old).dead
             (layout_of self.old).size (part_of part.now) self.old.inode self.new.inode self.old.groups self.new.groups groups) }
         ensures kept { self.new ≡ record self.old { groups = self.new.groups; inode = self.new.inode } }
         ensures same { stored_groups S.place_of S.content S.len_of self.new ≡ stored_groups S.place_of S.content S.len_of self.old }
         ensures same_inode { stored_inode S.place_of S.content S.len_of self.new ≡ stored_inode S.place_of S.content S.len_of self.old }
+        ensures decodes { asks_inode (layout_of self.old) (part_of part.now) ≡ false
+            → IfOk result (λ groups. AllByRecursion (CanDecode self.old.shape.unit) groups) }
         ensures shown { AllTell S.content → asks_inode (layout_of self.old) (part_of part.now) ≡ false
             → IfOk result (λ groups. AllByRecursion (ShowsGroup self.old.shape.unit (bytes_of self.old)) groups) }
         ensures shown_inode { AllTell S.content → asks_inode (layout_of self.old) (part_of part.now) ≡ true

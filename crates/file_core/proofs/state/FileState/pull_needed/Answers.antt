@@ -1,4 +1,4 @@
-use Rattle.std.proofs.Common.{◌≡◌, ◌≤◌, ◌^◌, ◌∙◌, ◌++◌, ℕ, true, false, List, map, length, drop, take, sym, subst, ap, arith}
+use Rattle.std.proofs.Common.{◌≡◌, ◌≤◌, ◌^◌, ◌∙◌, ◌++◌, ℕ, true, false, List, None, map, length, drop, take, sym, subst, ap, arith}
 use Rattle.std.specs.List.{AllByRecursion}
 use Rattle.std.proofs.Math.Seq.{take-append_seam}
 use Rattle.std.proofs.lemmas.List.{length-map}
@@ -9,10 +9,12 @@ use Rattle.file_history.specs.Stored.{inode_of}
 use Rattle.file_core.specs.declared.pull.PulledGroup.{PulledGroup}
 use Rattle.file_core.specs.Notes.{told_of}
 use Rattle.file_core.specs.StoredGroups.{AllTell, GroupSlots, StoredGroup, stored_group, list_of}
-use Rattle.file_core.specs.FileView.{FileView, bytes_of, layout_of}
+use Rattle.file_core.specs.FileView.{FileView, bytes_of, layout_of, now_of}
 use Rattle.file_core.specs.Pulls.{AreAllPulled, MayPull, part_of}
-use Rattle.file_core.specs.PullAnswers.{ShowsGroup, ShowsInode, asks_inode}
+use Rattle.file_core.specs.PullAnswers.{CanDecode, ShowsGroup, ShowsInode, asks_inode, group_of, refusal_of}
 use Rattle.file_core.proofs.GroupLookups.{few_groups}
+use Rattle.file_core.proofs.DecodableGroups.{decodes_data}
+use Rattle.file_core.proofs.PullCauses.{refusal_is}
 use Rattle.file_core.proofs.PulledBytes.{shows_data, shows_inode}
 use Rattle.file_core.proofs.SameDeadUnits.{all_same}
 use Rattle.file_core.proofs.PulledSlots.{may_pull, may_pull_root, root_group, small_size}
@@ -107,3 +109,16 @@ returns-clause-shown_inode g c =
     (bytes_after (told_of inside.log.notes)) inside.groups.items c.pull_all.new.stripes inside.inode c.pull_all.new.inode
     (map (stored_group g.S.Slot.place_of g.S.Slot.content g.S.Slot.len_of) inside.groups.items) c.from_vec.result kept
     (root_group g.S.Slot.place_of g.S.Slot.content g.S.Slot.len_of inside.shape l _ _ inside.inode kept) (pulled g c) asks)
+
+pub returns-clause-decodes : goal.returns-clause-decodes
+returns-clause-decodes g c =
+    let inside = c.self.inside in
+    let kept = c.self.invariant.0.slots in
+    let l = layout_after inside.level (told_of inside.log.notes) in
+    let part = part_of c.args.part.now in
+    let root = root_group g.S.Slot.place_of g.S.Slot.content g.S.Slot.len_of inside.shape l _ _ inside.inode kept in
+    let none = subst (λ (f : FileView g.row.S.Denot). refusal_of (now_of f c.args.view.now) (layout_of f) part ≡ None) (sym c.self.view_is) c.requires.enough in
+    subst (λ (f : FileView g.row.S.Denot). asks_inode (layout_of f) part ≡ false → AllByRecursion (CanDecode f.shape.unit) c.from_vec.result) c.self.view_is
+    (λ asks. decodes_data g.S.Slot.place_of g.S.Slot.content g.S.Slot.len_of g.S.Slot.reads inside.shape c.args.view.now l part
+    (bytes_after (told_of inside.log.notes)) inside.groups.items c.pull_all.new.stripes inside.inode c.pull_all.new.inode c.from_vec.result kept
+    (refusal_is inside.shape inside.level c.args.view.now l (group_of inside.inode) part root kept.there ∙ none) (pulled g c) asks)
