@@ -1,0 +1,7 @@
+pub mod SegmentLemmas
+pub mod UnitParts
+pub mod RangeParts
+pub mod PulledRange
+pub mod ReadAnswers
+pub mod PathAccountLemmas
+pub mod ReadAccounts

@@ -1,0 +1,60 @@
+-- The turn as a whole.
+use Rattle.std.proofs.Common.{◌≡◌, ◌+◌, ◌∙◌, refl, sym, ap, subst, rules}
+use Rattle.turn_cell.specs.Seats.{SeatView, seat_view, taken, turn_seat}
+use Rattle.fabric.specs.Views.{fabric_view}
+use Rattle.file_core.specs.FileView.{FileView, IsFile}
+use Rattle.file_turns.specs.FileTurns.{FileTurn, terms_of}
+use Rattle.file_turns.proofs.FileTurnLemmas.{file_turn, turn_within}
+use Rattle.read_path.specs.PathAccounts.{KeepsAccount}
+use Rattle.read_path.specs.Reads.{ReadTells}
+use Rattle.read_path.proofs.ReadAccounts.{keeps_from_last, read_account}
+use Rattle.read_path.proofs.ReadAnswers.{read_changes, shape_found}
+use Rattle.read_path.proofs.reading.read.Goals as goal
+
+pub read_in-shown-requires-clause-shape : goal.read_in-shown-requires-clause-shape
+read_in-shown-requires-clause-shape g c κs within =
+    shape_found (seat_view c.args.seat.now) (turn_seat c.enter-turn.result) (taken c.enter-turn.result) _ c.state.result.now c.enter-turn.ensures.entered c.state.ensures.value
+    (fabric_view c.args.desk.now.fabric.now).shape c.requires.shape
+
+pub leave-requires-clause-changed : goal.leave-requires-clause-changed
+leave-requires-clause-changed g c =
+    turn_within (seat_view c.args.seat.now) (turn_seat c.enter-turn.result) (taken c.enter-turn.result) _ c.state.result.now c.read_in-shown.new.file
+    c.enter-turn.ensures.entered c.state.ensures.value
+    (read_changes g.S.Slot.place_of g.S.Slot.content g.S.Slot.len_of g.S.Slot.reads c.read_in-shown.result (fabric_view c.args.desk.now.fabric.now) c.args.desk.now.by c.args.offset c.args.len
+    c.state.result.now c.read_in-shown.new.file c.args.desk.now.hand.now c.read_in-shown.new.desk.hand.now c.read_in-shown.ensures.tells)
+
+pub returns-clause-turn : goal.returns-clause-turn
+returns-clause-turn g c =
+    let done : FileTurn
+    (λ (x y : FileView g.row.S.Denot). ReadTells g.S.Slot.place_of g.S.Slot.content g.S.Slot.len_of g.S.Slot.reads c.read_in-shown.result (fabric_view c.args.desk.now.fabric.now)
+    c.args.desk.now.by c.args.offset c.args.len x y c.args.desk.now.hand.now c.read_in-shown.new.desk.hand.now)
+    (seat_view c.args.seat.now) (seat_view c.leave.new.self.1.0) =
+    file_turn _ (seat_view c.args.seat.now) (turn_seat c.enter-turn.result) _ (taken c.enter-turn.result) _ c.state.result.now c.read_in-shown.new.file
+    c.enter-turn.ensures.entered c.state.ensures.value c.read_in-shown.ensures.tells c.leave.ensures.left in
+    search rules
+
+pub returns-clause-account : goal.returns-clause-account
+returns-clause-account g c =
+    let f = fabric_view c.args.desk.now.fabric.now in
+    let last = ap (λ (s : SeatView (FileView g.row.S.Denot)). s.last) c.leave.ensures.left in
+    let kept : KeepsAccount f.shape (seat_view c.args.seat.now).number (seat_view c.args.seat.now).last (seat_view c.leave.new.self.1.0).last c.args.desk.now.hand.now c.read_in-shown.new.desk.hand.now =
+    subst (λ (y : FileView g.row.S.Denot). KeepsAccount f.shape (seat_view c.args.seat.now).number (seat_view c.args.seat.now).last y c.args.desk.now.hand.now c.read_in-shown.new.desk.hand.now) (sym last)
+    (keeps_from_last (seat_view c.args.seat.now) (turn_seat c.enter-turn.result) (taken c.enter-turn.result) _ c.state.result.now c.enter-turn.ensures.entered c.state.ensures.value
+    f.shape c.read_in-shown.new.file (c.read_in-shown.new.file.turns + 1) c.args.desk.now.hand.now c.read_in-shown.new.desk.hand.now
+    (read_account g.S.Slot.place_of g.S.Slot.content g.S.Slot.len_of g.S.Slot.reads c.read_in-shown.result f c.args.desk.now.by c.args.offset c.args.len
+    c.state.result.now c.read_in-shown.new.file c.args.desk.now.hand.now c.read_in-shown.new.desk.hand.now c.read_in-shown.ensures.tells)) in
+    search rules
+
+pub returns-clause-terms : goal.returns-clause-terms
+returns-clause-terms g c =
+    let terms : terms_of (seat_view c.leave.new.self.1.0).last ≡ terms_of (seat_view c.args.seat.now).last =
+    ap (λ (s : SeatView (FileView g.row.S.Denot)). terms_of s.last) c.leave.ensures.left ∙ c.leave.ensures.grows.fixed
+    ∙ ap (λ (s : SeatView (FileView g.row.S.Denot)). terms_of s.last) c.enter-turn.ensures.entered.seat in
+    search rules
+
+pub returns-clause-file : goal.returns-clause-file
+returns-clause-file g c =
+    let last = ap (λ (s : SeatView (FileView g.row.S.Denot)). s.last) c.leave.ensures.left in
+    let file : IsFile g.S.Slot.place_of g.S.Slot.content g.S.Slot.len_of (seat_view c.leave.new.self.1.0).last =
+    subst (λ (y : FileView g.row.S.Denot). IsFile g.S.Slot.place_of g.S.Slot.content g.S.Slot.len_of y) (sym last) c.read_in-shown.ensures.file in
+    search rules

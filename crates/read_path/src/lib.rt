@@ -1,0 +1,10 @@
+//! The path that reads a striped file, in one turn of the file's cell.
+#![tactic(auto)]
+
+mod board_look;
+mod byte_range;
+mod decoding;
+mod pulled_range;
+mod reading;
+
+pub use reading::{ReadRefusal, read};
