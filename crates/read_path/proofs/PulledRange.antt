@@ -1,5 +1,5 @@
 -- What a pull of a range tells, by its answer, and what is noted of it.
-use Rattle.std.proofs.Common.{◌≡◌, ℕ, ◌+◌, ◌≤◌, min, arith, ◌↔◌, ◌⊎◌, List, [], ◌∷◌, Option, Result, Ok, Err, None, Some, Bool, true, false, inl, inr, IfOk, IfErr, length, refl, sym, ap, subst, ◌∙◌}
+use Rattle.std.proofs.Common.{◌≡◌, ℕ, ◌+◌, ◌≤◌, min, arith, ◌↔◌, ◌⊎◌, List, [], Option, Result, Ok, Err, None, Some, Bool, true, false, inl, inr, IfOk, IfErr, length, refl, sym, ap, subst, ◌∙◌}
 use Rattle.std.specs.List.{AllByRecursion, list_any}
 use Rattle.std.specs.Result.{IsErrOf}
 use Rattle.board.specs.declared.board_view.View.{View}
@@ -8,7 +8,7 @@ use Rattle.domains.specs.declared.group.Group.{Group}
 use Rattle.domains.specs.declared.group.Lost.{Lost}
 use Rattle.flex_io.specs.declared.raw_place.RawPlace.{RawPlace}
 use Rattle.file_history.specs.Bytes.{slice_of}
-use Rattle.file_history.specs.Layout.{Layout, group_list}
+use Rattle.file_history.specs.Layout.{group_list}
 use Rattle.file_history.specs.Live.{first_short, range}
 use Rattle.file_history.specs.declared.entry.FileEvent.TheVariants.{Refused, Shown}
 use Rattle.file_history.specs.declared.entry.Refused.{Refused as Refusal}
@@ -24,7 +24,7 @@ use Rattle.file_core.specs.declared.pull.Pulled.{Pulled}
 use Rattle.file_turns.specs.PathRoom.{with_room}
 use Rattle.read_path.specs.Paths.{IsRefused}
 use Rattle.read_path.specs.PulledRanges.{IsPulledRange, PullTells}
-use Rattle.read_path.specs.Reads.{ReadsAtMost, ShowsRange}
+use Rattle.read_path.specs.Reads.{ShowsRange}
 use Rattle.read_path.specs.Segments.{parts_of}
 use Rattle.read_path.proofs.RangeParts.{range_shown}
 

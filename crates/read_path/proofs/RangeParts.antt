@@ -1,6 +1,6 @@
 -- What the groups that were pulled for a range hold of it.
-use Rattle.std.proofs.Common.{◌≡◌, ℕ, ◌+◌, ◌-◌, ◌*◌, ◌/◌, ◌<◌, ◌≤◌, min, max, nat_lt, Bool, true, false, ◌&&◌, List, [], ◌∷◌, ◌++◌, length, map, take, drop, Option, Some, None, inl, inr, refl, sym, ap, subst, ◌∙◌, arith, rules, append_assoc, append-nil, lt-ltb, zero-mul}
-use Rattle.std.specs.List.{AllByRecursion, list_any}
+use Rattle.std.proofs.Common.{◌≡◌, ℕ, ◌+◌, ◌-◌, ◌*◌, ◌/◌, ◌<◌, ◌≤◌, min, max, nat_lt, Bool, true, false, ◌&&◌, List, [], ◌∷◌, ◌++◌, length, map, take, drop, Option, Some, None, inl, inr, refl, sym, ap, ◌∙◌, arith, rules, append_assoc, append-nil, lt-ltb, zero-mul}
+use Rattle.std.specs.List.{AllByRecursion}
 use Rattle.std.proofs.Math.Nat.{lt-div-mul-add}
 use Rattle.std.proofs.lemmas.Bool.{cases_lt, true≢false}
 use Rattle.std.proofs.lemmas.Grind.{flat_map-append}
@@ -12,13 +12,11 @@ use Rattle.domains.specs.Shape.{Shape}
 use Rattle.domains.specs.declared.group.Group.{Group}
 use Rattle.inode_codec.specs.Inode.{IsInode, data_units}
 use Rattle.file_history.specs.Bytes.{slice_of}
-use Rattle.file_history.specs.Layout.{Layout, Unit_, group_list}
+use Rattle.file_history.specs.Layout.{Layout, Unit_}
 use Rattle.file_history.specs.Live.{holds_byte, range}
 use Rattle.file_history.specs.Stored.{inode_of}
-use Rattle.file_core.specs.FileInvariant.{KeepsSlots}
 use Rattle.file_core.specs.FileView.{FileView, IsFile, bytes_of, layout_of}
-use Rattle.file_core.specs.Pulls.{AreAllPulled, ArePulled, IsPulledIf, IsRootPulled, is_asked}
-use Rattle.file_core.specs.PullAnswers.{asks_inode, group_of}
+use Rattle.file_core.specs.Pulls.{AreAllPulled, ArePulled, IsPulledIf, IsRootPulled}
 use Rattle.file_core.specs.StoredGroups.{GroupSlots, SpellIn, StoredGroup, list_of, stored_group}
 use Rattle.file_core.specs.declared.pull.PulledGroup.{PulledGroup}
 use Rattle.file_core.proofs.GroupLookups.{groups_of}

@@ -13,7 +13,7 @@ use Rattle.file_history.specs.declared.entry.FileEvent.TheVariants.{Refused, Sho
 use Rattle.file_history.specs.declared.entry.Refused.{Refused as Refusal}
 use Rattle.file_core.specs.FileView.{FileView}
 use Rattle.file_core.specs.Notes.{noted}
-use Rattle.file_turns.proofs.FileTurnLemmas.{EntersFile, NotesOne, notes_one}
+use Rattle.file_turns.proofs.FileTurnLemmas.{EntersFile, notes_one}
 use Rattle.read_path.specs.PathAccounts.{Account, KeepsAccount}
 use Rattle.read_path.specs.Paths.{IsRefused, SeesBoard}
 use Rattle.read_path.specs.Reads.{LooksAtMost, ReadTells}
@@ -28,8 +28,8 @@ module _ {S : Type 0} where
       → IsRefused by view why x y → KeepsAccount shape x.seat x y old new
   refused_account f by view why least shape x y old new sees is = record {
     each = λ d many of account.
-      account_noted shape d many (noted by view (Refused why) []) x y old new 0 0 (refused_one by view why x y is)
-      (λ held holds. holds_looked f least view shape d (held + 0) old new sees holds) refl account;
+        account_noted shape d many (noted by view (Refused why) []) x y old new 0 0 (refused_one by view why x y is)
+        (λ held holds. holds_looked f least view shape d (held + 0) old new sees holds) refl account;
   }
 
   -- at most the board was looked at, and no slot moved
@@ -45,9 +45,9 @@ module _ {S : Type 0} (place_of : S → RawPlace) (content : S → Option (List 
       → ReadTells place_of content len_of reads result f by offset len x y old new → KeepsAccount f.shape x.seat x y old new
   read_account (Ok bytes) f by offset len x y old new tells = record {
     each = λ d many of account.
-      account_noted f.shape d many (noted by tells.view (Shown offset len bytes) []) x y old new 0 0
-      (notes_one (noted by tells.view (Shown offset len bytes) []) tells.did.spare y.groups y.inode x y tells.did.noted)
-      (λ held holds. holds_looked f _ tells.view f.shape d (held + 0) old new tells.begins.sees holds) refl account;
+        account_noted f.shape d many (noted by tells.view (Shown offset len bytes) []) x y old new 0 0
+        (notes_one (noted by tells.view (Shown offset len bytes) []) tells.did.spare y.groups y.inode x y tells.did.noted)
+        (λ held holds. holds_looked f _ tells.view f.shape d (held + 0) old new tells.begins.sees holds) refl account;
   }
   read_account (Err Absent) f by offset len x y old new tells =
       refused_account f by tells.view _ _ f.shape x y old new tells.begins.sees tells.did.refused
@@ -55,13 +55,13 @@ module _ {S : Type 0} (place_of : S → RawPlace) (content : S → Option (List 
       refused_account f by tells.view _ _ f.shape x y old new tells.begins.sees tells.did.refused
   read_account (Err LogFull) f by offset len x y old new tells = record {
     each = λ d many of account.
-      account_same f.shape d many x.seat x y old new (ap (λ (g : FileView S). g.level) tells.file) (ap (λ (g : FileView S). g.notes) tells.file)
-      (λ held holds. subst (Holds f.shape d held) (sym tells.hand) holds) account;
+        account_same f.shape d many x.seat x y old new (ap (λ (g : FileView S). g.level) tells.file) (ap (λ (g : FileView S). g.notes) tells.file)
+        (λ held holds. subst (Holds f.shape d held) (sym tells.hand) holds) account;
   }
   read_account (Err NoMemory) f by offset len x y old new tells = record {
     each = λ d many of account.
-      account_same f.shape d many x.seat x y old new (ap (λ (g : FileView S). g.level) tells.file.kept) (ap (λ (g : FileView S). g.notes) tells.file.kept)
-      (λ held holds. holds_at_most f _ f.shape d held old new tells.hand holds) account;
+        account_same f.shape d many x.seat x y old new (ap (λ (g : FileView S). g.level) tells.file.kept) (ap (λ (g : FileView S). g.notes) tells.file.kept)
+        (λ held holds. holds_at_most f _ f.shape d held old new tells.hand holds) account;
   }
 
 module _ {S : Type 0} (before within : SeatView (FileView S)) (x begun state : FileView S) (entered : EntersFile before within x begun) (same : state ≡ begun) where
@@ -73,11 +73,11 @@ module _ {S : Type 0} (before within : SeatView (FileView S)) (x begun state : F
       → KeepsAccount shape before.number before.last (record y { turns = turns }) old new
   keeps_from_last shape y turns old new keeps = record {
     each = λ d many of account.
-      let at : Account shape d many before.number x old = account_follows shape d many before.number before.last x old entered.follows account in
-      let begins : Account shape d many before.number (record x { seat = before.number }) old = record { held = at.held; holds = at.holds; sum = at.sum } in
-      let seat : state.seat ≡ before.number = ap (λ (f : FileView S). f.seat) found in
-      let ends : Account shape d many before.number y new =
-      subst (λ n. Account shape d many n y new) seat
-      (keeps.each d many of (subst (λ n. Account shape d many n state old) (sym seat) (subst (λ (f : FileView S). Account shape d many before.number f old) (sym found) begins))) in
-      record { held = ends.held; holds = ends.holds; sum = ends.sum };
+        let at : Account shape d many before.number x old = account_follows shape d many before.number before.last x old entered.follows account in
+        let begins : Account shape d many before.number (record x { seat = before.number }) old = record { held = at.held; holds = at.holds; sum = at.sum } in
+        let seat : state.seat ≡ before.number = ap (λ (f : FileView S). f.seat) found in
+        let ends : Account shape d many before.number y new =
+        subst (λ n. Account shape d many n y new) seat
+        (keeps.each d many of (subst (λ n. Account shape d many n state old) (sym seat) (subst (λ (f : FileView S). Account shape d many before.number f old) (sym found) begins))) in
+        record { held = ends.held; holds = ends.holds; sum = ends.sum };
   }

@@ -1,5 +1,5 @@
 -- What follows from each answer of a read.
-use Rattle.std.proofs.Common.{◌≡◌, ℕ, ◌+◌, ◌≤◌, ◌<◌, ◌↔◌, List, [], ◌∷◌, ◌++◌, Option, Result, Ok, Err, None, Some, true, false, inl, inr, length, refl, sym, ap, subst, ◌∙◌, arith, append-nil}
+use Rattle.std.proofs.Common.{◌≡◌, ℕ, ◌+◌, ◌≤◌, ◌<◌, ◌↔◌, List, [], Option, Result, Ok, Err, inl, inr, length, refl, sym, ap, ◌∙◌, append-nil}
 use Rattle.std.specs.Result.{IsErrOf}
 use Rattle.std.proofs.lemmas.Bool.{cases_lt}
 use Rattle.std.proofs.lemmas.List.Elements.{All-nil}
@@ -22,7 +22,7 @@ use Rattle.file_core.specs.declared.noted.Noted.{Noted}
 use Rattle.file_turns.specs.FileTurns.{ChangesFile, terms_of}
 use Rattle.file_turns.specs.PathRoom.{entries_of_path, with_room}
 use Rattle.file_turns.proofs.FileTurnLemmas.{EntersFile, NotesOne, changes_none, changes_one, notes_one}
-use Rattle.read_path.specs.Paths.{Begins, IsFull, IsRefused}
+use Rattle.read_path.specs.Paths.{Begins, IsRefused}
 use Rattle.read_path.specs.Reads.{ReadTells, ReadsAtMost, RunsOut, TellsAt}
 use Rattle.read_path.specs.declared.reading.ReadRefusal.{ReadRefusal}
 use Rattle.read_path.specs.declared.reading.ReadRefusal.TheVariants.{Absent, Lost, LogFull, NoMemory}

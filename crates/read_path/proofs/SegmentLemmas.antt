@@ -1,10 +1,10 @@
 -- Parts of the bytes of a file that follow one another.
-use Rattle.std.proofs.Common.{◌≡◌, ℕ, zero, suc, ◌+◌, ◌-◌, ◌*◌, ◌<◌, ◌≤◌, min, max, List, [], ◌∷◌, ◌++◌, length, take, drop, replicate, get_or, zero-mul, suc-mul, mul-le-mul_right, inl, inr, refl, sym, ap, ap₂, subst, ◌∙◌, arith, rules, append-nil}
+use Rattle.std.proofs.Common.{◌≡◌, ℕ, zero, suc, ◌+◌, ◌-◌, ◌*◌, ◌<◌, ◌≤◌, min, max, List, [], ◌∷◌, ◌++◌, length, take, drop, replicate, get_or, zero-mul, suc-mul, mul-le-mul_right, inl, inr, sym, ap, ap₂, ◌∙◌, arith, rules, append-nil}
 use Rattle.std.specs.List.{AllByRecursion, flat_map}
 use Rattle.std.proofs.lemmas.Bool.{cases_lt}
 use Rattle.std.proofs.lemmas.List.{places, same_lists}
 use Rattle.std.proofs.Math.Seq.{take-append_seam}
-use Rattle.read_path.specs.Segments.{segment, part_of_units}
+use Rattle.read_path.specs.Segments.{segment}
 
 -- a segment that ends where it begins
 pub nothing : (bytes : List ℕ) (low high : ℕ) → high ≤ low → segment bytes low high ≡ []
@@ -20,19 +20,19 @@ pub join : (bytes : List ℕ) (start stop a b c : ℕ) → a ≤ b → b ≤ c
 join bytes start stop a b c first second =
     elim (cases_lt b stop) [
       | inr over ↦
-        let later : segment bytes (max start b) (min stop c) ≡ [] = nothing bytes (max start b) (min stop c) (omega (arith, over, second)) in
-        let ends : min stop b ≡ min stop c = omega (arith, over, second) in
-        ap₂ (λ (n : ℕ) (l : List ℕ). segment bytes (max start a) n ++ l) ends later ∙ append-nil _
+          let later : segment bytes (max start b) (min stop c) ≡ [] = nothing bytes (max start b) (min stop c) (omega (arith, over, second)) in
+          let ends : min stop b ≡ min stop c = omega (arith, over, second) in
+          ap₂ (λ (n : ℕ) (l : List ℕ). segment bytes (max start a) n ++ l) ends later ∙ append-nil _
       | inl inside ↦ elim (cases_lt start b) [
         | inr below ↦
-          let earlier : segment bytes (max start a) (min stop b) ≡ [] = nothing bytes (max start a) (min stop b) (omega (arith, below, first)) in
-          let begins : max start b ≡ max start a = omega (arith, below, first) in
-          ap₂ (λ (l : List ℕ) (n : ℕ). l ++ segment bytes n (min stop c)) earlier begins
+            let earlier : segment bytes (max start a) (min stop b) ≡ [] = nothing bytes (max start a) (min stop b) (omega (arith, below, first)) in
+            let begins : max start b ≡ max start a = omega (arith, below, first) in
+            ap₂ (λ (l : List ℕ) (n : ℕ). l ++ segment bytes n (min stop c)) earlier begins
         | inl within ↦
-          let here : min stop b ≡ b = omega (arith, inside) in
-          let there : max start b ≡ b = omega (arith, within) in
-          (λ i. segment bytes (max start a) (here i) ++ segment bytes (there i) (min stop c))
-          ∙ joined bytes (max start a) b (min stop c) (omega (arith, within, first)) (omega (arith, inside, second))
+            let here : min stop b ≡ b = omega (arith, inside) in
+            let there : max start b ≡ b = omega (arith, within) in
+            (λ i. segment bytes (max start a) (here i) ++ segment bytes (there i) (min stop c))
+            ∙ joined bytes (max start a) b (min stop c) (omega (arith, within, first)) (omega (arith, inside, second))
       ]
     ]
 

@@ -1,6 +1,6 @@
 -- The bytes of a range that one unit holds.
-use Rattle.std.proofs.Common.{◌≡◌, ℕ, zero, suc, ◌+◌, ◌-◌, ◌*◌, ◌<◌, ◌≤◌, min, max, List, [], ◌∷◌, ◌++◌, length, map, take, drop, replicate, get_or, Result, Ok, Err, OnOk, append_assoc, refl, sym, ap, subst, ◌∙◌, arith, one-mul, mul-le-mul_right}
-use Rattle.std.specs.List.{AllByRecursion, flat_map}
+use Rattle.std.proofs.Common.{◌≡◌, ℕ, zero, suc, ◌+◌, ◌-◌, ◌*◌, ◌<◌, ◌≤◌, min, max, List, [], ◌∷◌, ◌++◌, length, take, drop, replicate, get_or, Result, Ok, Err, OnOk, append_assoc, refl, sym, ap, subst, ◌∙◌, arith, one-mul, mul-le-mul_right}
+use Rattle.std.specs.List.{AllByRecursion}
 use Rattle.std.proofs.lemmas.List.{get_or-take, take_all}
 use Rattle.galois.specs.Codeword.{unit_at}
 use Rattle.rs_codes.specs.Codes.{AreUnitsOf}

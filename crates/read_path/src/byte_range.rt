@@ -31,12 +31,20 @@ impl ByteRange {
     }
 
     /// Appends those of these bytes that are in the range. The first of them is the file's byte `first`.
-    pub(crate) fn push_from(&self, bytes: &[u8], first: u64, out: &mut Vec<u8>) -> Result<(), AllocError>
+    pub(crate) fn push_from(
+        &self,
+        bytes: &[u8],
+        first: u64,
+        out: &mut Vec<u8>,
+    ) -> Result<(), AllocError>
         ensures { OnOk result (out.new.items ≡ out.old.items ++ take (self.now.stop - max self.now.start first) (drop (self.now.start - first) bytes.now)) }
     {
         let skip = self.start.saturating_sub(first).min(bytes.len() as u64) as usize;
         let rest = &bytes[skip..];
-        let most = self.stop.saturating_sub(self.start.max(first)).min(rest.len() as u64) as usize;
+        let most = self
+            .stop
+            .saturating_sub(self.start.max(first))
+            .min(rest.len() as u64) as usize;
         out.extend_from_slice(&rest[..most])
     }
 }

@@ -138,12 +138,7 @@ fn held_unit(have: &Have, position: u8) -> Option<&[u8]>
 }
 
 /// The unit at a position, of units of `len` bytes that follow one another, and of which these are the positions.
-fn unit_from<'a>(
-    positions: &[u8],
-    bytes: &'a [u8],
-    len: usize,
-    position: u8,
-) -> Option<&'a [u8]>
+fn unit_from<'a>(positions: &[u8], bytes: &'a [u8], len: usize, position: u8) -> Option<&'a [u8]>
     requires whole { length bytes.now ≡ length positions.now * len }
     ensures { IfSome result (λ unit. (at : ℕ → List ℕ) → units_in (length positions.now) len bytes.now ≡ map at positions.now → unit.now ≡ at position) }
 {

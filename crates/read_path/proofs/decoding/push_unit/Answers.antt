@@ -1,4 +1,4 @@
-use Rattle.std.proofs.Common.{◌≡◌, ◌+◌, ◌*◌, ℕ, List}
+use Rattle.std.proofs.Common.{◌+◌, ◌*◌}
 use Rattle.read_path.proofs.UnitParts.{one_unit, pushed_ok}
 use Rattle.read_path.proofs.decoding.push_unit.Goals as goal
 

@@ -1,5 +1,5 @@
 -- The turn as a whole.
-use Rattle.std.proofs.Common.{◌≡◌, ◌+◌, ◌∙◌, refl, sym, ap, subst, rules}
+use Rattle.std.proofs.Common.{◌≡◌, ◌+◌, ◌∙◌, sym, ap, subst, rules}
 use Rattle.turn_cell.specs.Seats.{SeatView, seat_view, taken, turn_seat}
 use Rattle.fabric.specs.Views.{fabric_view}
 use Rattle.file_core.specs.FileView.{FileView, IsFile}

@@ -1,5 +1,5 @@
 -- What was pulled is shown, and noted.
-use Rattle.std.proofs.Common.{◌≡◌, ◌∙◌, ℕ, List, sym, ap}
+use Rattle.std.proofs.Common.{◌∙◌, sym, ap}
 use Rattle.file_history.specs.Bytes.{slice_of}
 use Rattle.file_core.specs.FileView.{FileView, bytes_of}
 use Rattle.read_path.proofs.PulledRange.{answer_shown, notes_shown}
