@@ -1,0 +1,2 @@
+pub mod ChangedMaps
+pub mod Laws
