@@ -11,7 +11,7 @@ use Rattle.file_history.specs.Layout.{Layout, replaced}
 use Rattle.file_history.specs.WriteRule.{affected_groups, generations_of, new_units, AreChunks, chunk_count, groups_after_write}
 use Rattle.file_history.specs.declared.entry.Change.{Change}
 use Rattle.write_rule.specs.Runs.{IsAffectedRun, run_of, last_unit}
-use Rattle.write_rule.specs.SplicedRun.{spliced}
+use Rattle.map_changes.specs.ChangedMaps.{spliced}
 use Rattle.write_rule.specs.Laws.{WritesKeepUnits, WritesCountGroups}
 use Rattle.write_rule.proofs.GroupsBefore.{replaced_run}
 use Rattle.write_rule.proofs.CoveredUnits.{chunks, units_hold, last_holds}

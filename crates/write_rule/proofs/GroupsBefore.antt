@@ -8,7 +8,7 @@ use Rattle.domains.specs.declared.group.Group.{Group}
 use Rattle.inode_codec.specs.Inode.{AreGenerations}
 use Rattle.file_history.specs.Layout.{is_among, replaced}
 use Rattle.file_history.specs.WriteRule.{generations_of, groups_before}
-use Rattle.write_rule.specs.SplicedRun.{spliced}
+use Rattle.map_changes.specs.ChangedMaps.{spliced}
 
 or_neither : (x y : Bool) → x ≡ false → y ≡ false → (x || y) ≡ false
 or_neither x y h k = ap (λ z. z || y) h ∙ k

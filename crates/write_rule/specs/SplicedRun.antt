@@ -4,10 +4,7 @@ use Rattle.inode_codec.specs.Inode.{data_units}
 use Rattle.file_history.specs.Bytes.{overwrite}
 use Rattle.file_history.specs.Layout.{Layout, replaced}
 use Rattle.file_history.specs.declared.entry.Change.{Change}
-
--- the list, with `new` in place of `count` elements from index `first` on
-abbrev pub spliced : {A : Type 0} → List A → ℕ → ℕ → List A → List A
-spliced xs first count new = take first xs ++ (new ++ drop (first + count) xs)
+use Rattle.map_changes.specs.ChangedMaps.{spliced}
 
 -- the change puts its groups in the place of this run of groups, which has all bytes that the write changes: the new groups
 -- reach the end, and are the last, or have as many data units as the old ones, and the range ends within them

@@ -1,0 +1,5 @@
+mod ReleasedSlots
+mod PathAccountLemmas
+mod HeldSlots
+mod PathTurns
+mod RemovalLemmas

@@ -1,0 +1,4 @@
+pub mod Paths
+pub mod Releases
+pub mod PathAccounts
+pub mod Removals

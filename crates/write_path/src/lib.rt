@@ -1,0 +1,8 @@
+//! The path that removes a striped file, in one turn of the file's cell.
+#![tactic(auto)]
+
+mod path;
+mod release;
+mod removal;
+
+pub use removal::{RemoveRefusal, remove};
