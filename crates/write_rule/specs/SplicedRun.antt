@@ -1,5 +1,5 @@
 -- What a switch asks of the run of groups that it replaces.
-use Rattle.std.specs.Prelude.{◌≡◌, ℕ, ◌+◌, ◌*◌, ◌≤◌, ◌⊎◌, List, [], ◌++◌, length, take, drop}
+use Rattle.std.specs.Prelude.{◌≡◌, ℕ, ◌+◌, ◌*◌, ◌≤◌, ◌⊎◌, List, [], length, take, drop}
 use Rattle.inode_codec.specs.Inode.{data_units}
 use Rattle.file_history.specs.Bytes.{overwrite}
 use Rattle.file_history.specs.Layout.{Layout, replaced}
