@@ -1,0 +1,11 @@
+mod NumberMaps
+mod ScriptLists
+mod DigitValues
+mod LevelNames
+mod KeptRules
+mod OneScenario
+mod NamedAgain
+mod CanonicalLines
+mod PlainTable
+mod OneTable
+mod CanonicalText
