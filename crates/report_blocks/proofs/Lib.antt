@@ -7,3 +7,4 @@ pub mod FileHeads
 pub mod FileFronts
 pub mod ReportFronts
 pub mod FileItems
+pub mod ReportLines

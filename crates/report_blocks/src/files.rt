@@ -58,6 +58,7 @@ pub fn read_blocks(
     text: &str,
 ) -> Result<(Vec<BoardEntry>, Vec<FileLog>), Stop>
     ensures read { IfOk result (λ p. AreLogs files.now (p.0.items, p.1.items) × (text.now ≡ blocks_text files.now (p.0.items, p.1.items))) }
+    ensures levels { IfOk result (λ _. AreLevels files.now) }
     ensures failed { IfErr result (Fails (AreLogs files.now) (blocks_text files.now) text.now) }
 {
     let (board, rest) = match read_board(alloc, scratch, text) {

@@ -1,10 +1,13 @@
-//! Reads the blocks of a report: those of the board and of each file.
+//! Reads a whole report of a scenario, and names the first line that is wrong.
 #![tactic(auto)]
 
 mod blocks;
 mod entries;
 mod files;
 mod stop;
+mod whole_report;
 
-pub use files::read_blocks;
-pub use stop::Stop;
+pub use whole_report::{ReportFault, read_logs};
+
+#[cfg(test)]
+mod tests;
