@@ -1,3 +1,5 @@
 pub mod FileTurns
 pub mod PathRoom
 pub mod NewInodes
+pub mod Paths
+pub mod PathAccounts

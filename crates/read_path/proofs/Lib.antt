@@ -3,5 +3,4 @@ pub mod UnitParts
 pub mod RangeParts
 pub mod PulledRange
 pub mod ReadAnswers
-pub mod PathAccountLemmas
 pub mod ReadAccounts

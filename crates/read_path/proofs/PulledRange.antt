@@ -22,7 +22,7 @@ use Rattle.file_core.specs.declared.pull.PullRefusal.{PullRefusal}
 use Rattle.file_core.specs.declared.pull.PullRefusal.TheVariants as refusal
 use Rattle.file_core.specs.declared.pull.Pulled.{Pulled}
 use Rattle.file_turns.specs.PathRoom.{with_room}
-use Rattle.read_path.specs.Paths.{IsRefused}
+use Rattle.file_turns.specs.Paths.{IsRefused}
 use Rattle.read_path.specs.PulledRanges.{IsPulledRange, PullTells}
 use Rattle.read_path.specs.Reads.{ShowsRange}
 use Rattle.read_path.specs.Segments.{parts_of}

@@ -8,18 +8,17 @@ use Rattle.flex_io.specs.declared.raw_place.RawPlace.{RawPlace}
 use Rattle.fabric.specs.Accounts.{Holds}
 use Rattle.fabric.specs.Cells.{FabricView}
 use Rattle.fabric.specs.declared.hand.Hand.{Hand}
-use Rattle.turn_cell.specs.Seats.{SeatView}
 use Rattle.file_history.specs.declared.entry.FileEvent.TheVariants.{Refused, Shown}
 use Rattle.file_history.specs.declared.entry.Refused.{Refused as Refusal}
 use Rattle.file_core.specs.FileView.{FileView}
 use Rattle.file_core.specs.Notes.{noted}
-use Rattle.file_turns.proofs.FileTurnLemmas.{EntersFile, notes_one}
-use Rattle.read_path.specs.PathAccounts.{Account, KeepsAccount}
-use Rattle.read_path.specs.Paths.{IsRefused, SeesBoard}
+use Rattle.file_turns.proofs.FileTurnLemmas.{notes_one}
+use Rattle.file_turns.specs.PathAccounts.{Account, KeepsAccount}
+use Rattle.file_turns.specs.Paths.{IsRefused, SeesBoard}
 use Rattle.read_path.specs.Reads.{LooksAtMost, ReadTells}
 use Rattle.read_path.specs.declared.reading.ReadRefusal.{ReadRefusal}
 use Rattle.read_path.specs.declared.reading.ReadRefusal.TheVariants.{Absent, Lost, LogFull, NoMemory}
-use Rattle.read_path.proofs.PathAccountLemmas.{account_follows, account_noted, account_same, holds_looked}
+use Rattle.file_turns.proofs.PathAccountLemmas.{account_noted, account_same, holds_looked}
 use Rattle.read_path.proofs.ReadAnswers.{refused_one}
 
 module _ {S : Type 0} where
@@ -62,22 +61,4 @@ module _ {S : Type 0} (place_of : S → RawPlace) (content : S → Option (List 
     each = λ d many of account.
         account_same f.shape d many x.seat x y old new (ap (λ (g : FileView S). g.level) tells.file.kept) (ap (λ (g : FileView S). g.notes) tells.file.kept)
         (λ held holds. holds_at_most f _ f.shape d held old new tells.hand holds) account;
-  }
-
-module _ {S : Type 0} (before within : SeatView (FileView S)) (x begun state : FileView S) (entered : EntersFile before within x begun) (same : state ≡ begun) where
-  found : state ≡ record x { seat = before.number }
-  found = same ∙ entered.begins
-
-  -- an account that was kept in the turn is kept from the last turn of the seat to this one
-  pub keeps_from_last : (shape : Shape) (y : FileView S) (turns : ℕ) (old new : Hand S) → KeepsAccount shape state.seat state y old new
-      → KeepsAccount shape before.number before.last (record y { turns = turns }) old new
-  keeps_from_last shape y turns old new keeps = record {
-    each = λ d many of account.
-        let at : Account shape d many before.number x old = account_follows shape d many before.number before.last x old entered.follows account in
-        let begins : Account shape d many before.number (record x { seat = before.number }) old = record { held = at.held; holds = at.holds; sum = at.sum } in
-        let seat : state.seat ≡ before.number = ap (λ (f : FileView S). f.seat) found in
-        let ends : Account shape d many before.number y new =
-        subst (λ n. Account shape d many n y new) seat
-        (keeps.each d many of (subst (λ n. Account shape d many n state old) (sym seat) (subst (λ (f : FileView S). Account shape d many before.number f old) (sym found) begins))) in
-        record { held = ends.held; holds = ends.holds; sum = ends.sum };
   }

@@ -22,7 +22,7 @@ use Rattle.file_core.specs.declared.noted.Noted.{Noted}
 use Rattle.file_turns.specs.FileTurns.{ChangesFile, terms_of}
 use Rattle.file_turns.specs.PathRoom.{entries_of_path, with_room}
 use Rattle.file_turns.proofs.FileTurnLemmas.{EntersFile, NotesOne, changes_none, changes_one, notes_one}
-use Rattle.read_path.specs.Paths.{Begins, IsRefused}
+use Rattle.file_turns.specs.Paths.{Begins, IsRefused}
 use Rattle.read_path.specs.Reads.{ReadTells, ReadsAtMost, RunsOut, TellsAt}
 use Rattle.read_path.specs.declared.reading.ReadRefusal.{ReadRefusal}
 use Rattle.read_path.specs.declared.reading.ReadRefusal.TheVariants.{Absent, Lost, LogFull, NoMemory}

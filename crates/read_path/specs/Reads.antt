@@ -16,7 +16,7 @@ use Rattle.file_core.specs.Pulls.{AreAllPulled}
 use Rattle.file_core.specs.StoredGroups.{AllTell}
 use Rattle.file_core.specs.declared.pull.PulledGroup.{PulledGroup}
 use Rattle.file_turns.specs.PathRoom.{entries_of_path, with_room}
-use Rattle.read_path.specs.Paths.{Begins, IsFull, IsRefused, SeesBoard}
+use Rattle.file_turns.specs.Paths.{Begins, IsFull, IsRefused, SeesBoard}
 use Rattle.read_path.specs.declared.reading.ReadRefusal.{ReadRefusal}
 use Rattle.read_path.specs.declared.reading.ReadRefusal.TheVariants.{Absent, Lost, LogFull, NoMemory}
 

@@ -1,7 +1,6 @@
 //! The path that reads a striped file, in one turn of the file's cell.
 #![tactic(auto)]
 
-mod board_look;
 mod byte_range;
 mod decoding;
 mod pulled_range;

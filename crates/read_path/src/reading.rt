@@ -6,11 +6,10 @@ ghost use Rattle.fabric.specs.Views.{IsHandOf, fabric_view, number_of};
 ghost use Rattle.file_core.specs.FileView.{IsFile, IsLater};
 ghost use Rattle.file_turns.specs.FileTurns.{FileTurn, terms_of};
 ghost use Rattle.file_turns.specs.PathRoom.{entries_of_path};
-ghost use Rattle.read_path.specs.PathAccounts.{KeepsAccount};
-ghost use Rattle.read_path.specs.Paths.{StaysAtDesk};
+ghost use Rattle.file_turns.specs.PathAccounts.{KeepsAccount};
+ghost use Rattle.file_turns.specs.Paths.{KeepsDesk};
 ghost use Rattle.read_path.specs.Reads.{ReadTells, TellsAt};
 
-use crate::board_look::look_at_board;
 use crate::decoding::{Shown, bytes_shown};
 use crate::pulled_range::pull_range;
 use board::{Grow, View};
@@ -18,7 +17,7 @@ use domains::{By, Lost};
 use fabric::Desk;
 use file_core::{FileState, PullRefusal};
 use file_history::Refused;
-use file_turns::reserve_for_path;
+use file_turns::{look_at_board, reserve_for_path};
 use flex_io::{Gate, Slot, Steady};
 use lists::List;
 use std::alloc::{AllocError, Global};
@@ -57,7 +56,7 @@ pub fn read<S: Slot + Steady + Send + Drop, G: Gate, R: Wait>(
     ensures terms { terms_of (seat_view seat.new).last ≡ terms_of (seat_view seat.old).last }
     ensures hand { IsHandOf (fabric_view desk.old.fabric.now) desk.new.hand.now }
     ensures number { number_of desk.new.hand.now ≡ number_of desk.old.hand.now }
-    ensures same { StaysAtDesk desk.old desk.new }
+    ensures same { KeepsDesk desk.old desk.new }
     ensures turn { FileTurn (λ x y. ReadTells S.place_of S.content S.len_of S.reads result (fabric_view desk.old.fabric.now) desk.old.by offset len x y
         desk.old.hand.now desk.new.hand.now) (seat_view seat.old) (seat_view seat.new) }
     ensures account { KeepsAccount (fabric_view desk.old.fabric.now).shape (seat_view seat.old).number (seat_view seat.old).last (seat_view seat.new).last
@@ -84,7 +83,7 @@ fn read_in<S: Slot + Steady + Send + Drop, G: Gate, R: Wait>(
     requires shape { file.old.shape ≡ (fabric_view desk.old.fabric.now).shape }
     ensures hand { IsHandOf (fabric_view desk.old.fabric.now) desk.new.hand.now }
     ensures number { number_of desk.new.hand.now ≡ number_of desk.old.hand.now }
-    ensures same { StaysAtDesk desk.old desk.new }
+    ensures same { KeepsDesk desk.old desk.new }
     ensures tells { ReadTells S.place_of S.content S.len_of S.reads result (fabric_view desk.old.fabric.now) desk.old.by offset len file.old file.new
         desk.old.hand.now desk.new.hand.now }
     ensures file { IsFile S.place_of S.content S.len_of file.new }
@@ -112,7 +111,7 @@ fn read_with_room<S: Slot + Steady + Send + Drop, G: Gate, R: Wait>(
     requires shape { file.old.shape ≡ (fabric_view desk.old.fabric.now).shape }
     ensures hand { IsHandOf (fabric_view desk.old.fabric.now) desk.new.hand.now }
     ensures number { number_of desk.new.hand.now ≡ number_of desk.old.hand.now }
-    ensures same { StaysAtDesk desk.old desk.new }
+    ensures same { KeepsDesk desk.old desk.new }
     ensures tells { ReadTells S.place_of S.content S.len_of S.reads result (fabric_view desk.old.fabric.now) desk.old.by offset len file.old file.new
         desk.old.hand.now desk.new.hand.now }
     ensures file { IsFile S.place_of S.content S.len_of file.new }

@@ -15,9 +15,9 @@ use Rattle.file_history.specs.Layout.{all_groups, group_list, places_of}
 use Rattle.file_core.specs.Accounts.{units_at}
 use Rattle.file_core.specs.FileView.{FileView, IsFile, layout_of}
 use Rattle.file_core.specs.StoredGroups.{GroupSlots, list_of}
-use Rattle.write_path.specs.PathAccounts.{on_drive}
+use Rattle.file_turns.specs.PathAccounts.{on_drive}
 use Rattle.write_path.specs.Releases.{slots_in}
-use Rattle.write_path.proofs.PathAccountLemmas.{count_places, grouped, places_stand}
+use Rattle.write_path.proofs.ReleasedAccounts.{count_places, grouped, places_stand}
 
 -- a deleted file hands back the slots that it held
 pub slots_deleted : {S : Type 0} (x : FileView S) (groups : List (GroupSlots S)) (inode : GroupSlots S) → groups ≡ x.groups → Some inode ≡ x.inode

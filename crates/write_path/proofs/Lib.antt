@@ -1,5 +1,4 @@
 mod ReleasedSlots
-mod PathAccountLemmas
+mod ReleasedAccounts
 mod HeldSlots
-mod PathTurns
 mod RemovalLemmas

@@ -16,16 +16,17 @@ use Rattle.file_core.specs.FileView.{FileView, IsFile}
 use Rattle.file_core.specs.Notes.{noted}
 use Rattle.file_core.specs.StoredGroups.{list_of}
 use Rattle.file_turns.specs.FileTurns.{ChangesFile}
-use Rattle.write_path.specs.PathAccounts.{KeepsAccount}
+use Rattle.file_turns.specs.PathAccounts.{KeepsAccount}
 use Rattle.file_turns.specs.PathRoom.{with_room}
-use Rattle.write_path.specs.Paths.{IsFull, IsRefused, SeesBoard}
+use Rattle.file_turns.specs.Paths.{IsFull, IsRefused, SeesBoard}
 use Rattle.write_path.specs.Releases.{slots_in}
 use Rattle.write_path.specs.Removals.{DeletesFile, RemoveTells, RemovesFile, UnlessNoMemory}
 use Rattle.write_path.specs.declared.removal.RemoveRefusal.{RemoveRefusal}
 use Rattle.write_path.specs.declared.removal.RemoveRefusal.TheVariants.{Absent, LogFull, NoMemory}
 use Rattle.file_turns.proofs.FileTurnLemmas.{NotesOne, changes_none, changes_one, notes_one}
 use Rattle.write_path.proofs.HeldSlots.{units_held}
-use Rattle.write_path.proofs.PathAccountLemmas.{account_noted, account_same, holds_looked, holds_released}
+use Rattle.file_turns.proofs.PathAccountLemmas.{account_noted, account_same, holds_looked}
+use Rattle.write_path.proofs.ReleasedAccounts.{holds_released}
 
 module _ {S : Type 0} where
   pub refused_one : (by : By) (view : View) (why : Refusal) (x y : FileView S) → IsRefused by view why x y → NotesOne (noted by view (Refused why) []) x y

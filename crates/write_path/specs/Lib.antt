@@ -1,4 +1,2 @@
-pub mod Paths
 pub mod Releases
-pub mod PathAccounts
 pub mod Removals

@@ -11,7 +11,7 @@ use Rattle.file_core.specs.FileView.{FileView, layout_of, with_note}
 use Rattle.file_core.specs.Notes.{noted}
 use Rattle.file_core.specs.StoredGroups.{list_of}
 use Rattle.file_turns.specs.PathRoom.{with_room}
-use Rattle.write_path.specs.Paths.{Begins, IsFull, IsRefused, LacksMemory}
+use Rattle.file_turns.specs.Paths.{Begins, IsFull, IsRefused, LacksMemory}
 use Rattle.write_path.specs.Releases.{ReleasesEach, slots_in}
 use Rattle.write_path.specs.declared.removal.RemoveRefusal.{RemoveRefusal}
 use Rattle.write_path.specs.declared.removal.RemoveRefusal.TheVariants.{Absent, LogFull, NoMemory}

@@ -1,7 +1,6 @@
 //! The path that removes a striped file, in one turn of the file's cell.
 #![tactic(auto)]
 
-mod path;
 mod release;
 mod removal;
 

@@ -5,9 +5,10 @@ use Rattle.fabric.specs.Views.{fabric_view}
 use Rattle.file_core.specs.FileView.{FileView, IsFile}
 use Rattle.file_turns.specs.FileTurns.{FileTurn, terms_of}
 use Rattle.file_turns.proofs.FileTurnLemmas.{file_turn, turn_within}
-use Rattle.read_path.specs.PathAccounts.{KeepsAccount}
+use Rattle.file_turns.specs.PathAccounts.{KeepsAccount}
 use Rattle.read_path.specs.Reads.{ReadTells}
-use Rattle.read_path.proofs.ReadAccounts.{keeps_from_last, read_account}
+use Rattle.file_turns.proofs.PathTurns.{keeps_from_last}
+use Rattle.read_path.proofs.ReadAccounts.{read_account}
 use Rattle.read_path.proofs.ReadAnswers.{read_changes, shape_found}
 use Rattle.read_path.proofs.reading.read.Goals as goal
 

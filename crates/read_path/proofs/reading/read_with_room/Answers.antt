@@ -1,7 +1,7 @@
 -- What is told at the view that the hand saw.
 use Rattle.std.proofs.Common.{ℕ, subst}
 use Rattle.fabric.specs.Views.{fabric_view}
-use Rattle.read_path.specs.Paths.{SeesBoard}
+use Rattle.file_turns.specs.Paths.{SeesBoard}
 use Rattle.read_path.proofs.ReadAnswers.{tells_at}
 use Rattle.read_path.proofs.reading.read_with_room.Goals as goal
 

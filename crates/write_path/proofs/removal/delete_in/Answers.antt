@@ -4,7 +4,7 @@ use Rattle.domains.specs.Shape.{Shape}
 use Rattle.fabric.specs.Views.{fabric_view}
 use Rattle.file_core.specs.StoredGroups.{list_of}
 use Rattle.slot_search.specs.HandSeats.{AreOfCluster}
-use Rattle.write_path.specs.Paths.{SeesBoard}
+use Rattle.file_turns.specs.Paths.{SeesBoard}
 use Rattle.write_path.specs.Releases.{ReleasesEach, slots_in}
 use Rattle.write_path.proofs.HeldSlots.{slots_deleted, slots_within}
 use Rattle.write_path.proofs.removal.delete_in.Goals as goal

@@ -6,8 +6,8 @@ use Rattle.file_core.specs.FileView.{FileView, IsFile}
 use Rattle.file_turns.specs.FileTurns.{FileTurn, terms_of}
 use Rattle.file_turns.proofs.FileTurnLemmas.{file_turn, turn_within}
 use Rattle.write_path.specs.Removals.{RemoveTells, UnlessNoMemory}
-use Rattle.write_path.specs.PathAccounts.{KeepsAccount}
-use Rattle.write_path.proofs.PathTurns.{keeps_from_last, shape_found}
+use Rattle.file_turns.specs.PathAccounts.{KeepsAccount}
+use Rattle.file_turns.proofs.PathTurns.{keeps_from_last, shape_found}
 use Rattle.write_path.proofs.RemovalLemmas.{remove_changes, unless_weaker}
 use Rattle.write_path.proofs.removal.remove.Given.{Over}
 use Rattle.write_path.proofs.removal.remove.Goals as goal

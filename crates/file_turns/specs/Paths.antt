@@ -24,7 +24,7 @@ module _ {S : Type 0} where
     pub later : least ≤ view.epoch
     pub sees : Sees f.board.seats (number_of old) (seat_view old.board).last (seat_view seat).last view
 
-  -- the path began: the log has room for its entries, and the hand saw this view
+  -- the path began: the log has room for its entries, and the hand saw this view, no older than the file's last entry
   pub record Begins (f : FabricView) (x : FileView S) (view : View) (old new : Hand S) : Type 0 where
     pub room : length x.notes + entries_of_path x ≤ x.room
     pub sees : SeesBoard f (last_epoch_of x.notes) view old new

@@ -1,8 +1,8 @@
-//! How a path begins.
+//! What an actor sees of the board.
 
 ghost use Rattle.std.specs.Prelude.{◌≡◌, ◌≤◌};
 ghost use Rattle.fabric.specs.Views.{IsHandOf, fabric_view, number_of};
-ghost use Rattle.write_path.specs.Paths.{SeesBoard};
+ghost use Rattle.file_turns.specs.Paths.{SeesBoard};
 
 use board::{View, view};
 use fabric::{Fabric, Hand};
@@ -10,7 +10,7 @@ use flex_io::Slot;
 use std::sync::Wait;
 
 /// What the board shows the hand, of no earlier epoch than this one.
-pub(crate) fn look_at_board<S: Slot + Send + Drop, R: Wait>(
+pub fn look_at_board<S: Slot + Send + Drop, R: Wait>(
     rt: &R,
     fabric: &Fabric<S>,
     hand: &mut Hand<S>,

@@ -5,7 +5,7 @@ use Rattle.domains.specs.Shape.{Shape}
 use Rattle.turn_cell.specs.Seats.{CellView, IsIdleOf, seat_view}
 use Rattle.fabric.specs.Views.{fabric_view, number_of}
 use Rattle.fabric.proofs.HandAtBoard.{IsHandOf-board}
-use Rattle.read_path.proofs.board_look.look_at_board.Goals as goal
+use Rattle.file_turns.proofs.board_look.look_at_board.Goals as goal
 
 pub view-requires : goal.view-requires
 view-requires g c = subst (λ (b : CellView). IsIdleOf b (seat_view c.args.hand.now.board)) (sym c.board.ensures) c.requires.board

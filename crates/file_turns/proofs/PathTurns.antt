@@ -8,8 +8,8 @@ use Rattle.file_core.specs.FileView.{FileView}
 use Rattle.file_core.specs.declared.chronicle.FileTerms.{FileTerms}
 use Rattle.file_turns.specs.FileTurns.{terms_of}
 use Rattle.file_turns.proofs.FileTurnLemmas.{EntersFile}
-use Rattle.write_path.specs.PathAccounts.{Account, KeepsAccount}
-use Rattle.write_path.proofs.PathAccountLemmas.{account_follows}
+use Rattle.file_turns.specs.PathAccounts.{Account, KeepsAccount}
+use Rattle.file_turns.proofs.PathAccountLemmas.{account_follows}
 
 module _ {S : Type 0} (before within : SeatView (FileView S)) (x begun state : FileView S) (entered : EntersFile before within x begun) (same : state ≡ begun) where
   found : state ≡ record x { seat = before.number }
