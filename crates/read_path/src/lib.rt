@@ -7,3 +7,6 @@ mod pulled_range;
 mod reading;
 
 pub use reading::{ReadRefusal, read};
+
+#[cfg(test)]
+mod tests;

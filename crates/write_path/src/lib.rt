@@ -5,3 +5,6 @@ mod release;
 mod removal;
 
 pub use removal::{RemoveRefusal, remove};
+
+#[cfg(test)]
+mod tests;
