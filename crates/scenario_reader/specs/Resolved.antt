@@ -45,7 +45,7 @@ script_in files jobs [] actor = []
 script_in files jobs (x ∷ xs) actor =
     if x.place.actor == actor then op_of files jobs x.what ∷ script_in files jobs xs actor else script_in files jobs xs actor
 
--- the operations of each of so many actors, where the first has this number
+-- the operations of each actor, from the one with this number on
 abbrev pub scripts_in : List (List ℕ) → List (List ℕ) → List PlacedOp → ℕ → ℕ → List (List Op)
 scripts_in files jobs ops actor zero = []
 scripts_in files jobs ops actor (suc more) = script_in files jobs ops actor ∷ scripts_in files jobs ops (actor + 1) more
