@@ -15,7 +15,7 @@ use Rattle.file_history.specs.Refusals.{is_barred}
 use Rattle.file_history.specs.Step.{AreAtLevel, AreClean, Clears}
 use Rattle.file_core.specs.FileInvariant.{is_there}
 use Rattle.file_core.specs.DeadUnits.{names}
-use Rattle.file_core.specs.Clearings.{AnswersFirst, IsClear, IsClearAt, IsClearInode, IsClearInodeAt, IsFirstUnclear, are_clean}
+use Rattle.file_core.specs.ClearFiles.{AnswersFirst, IsClear, IsClearAt, IsClearInode, IsClearInodeAt, IsFirstUnclear, are_clean}
 
 -- what holds of each value that there is
 pub if_some : (P : ℕ → Type 0) (answer : Option ℕ) → ((n : ℕ) → answer ≡ Some n → P n) → IfSome answer P

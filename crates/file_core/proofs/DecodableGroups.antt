@@ -40,7 +40,7 @@ code_size g is =
       ];
     }
 
--- so many units came to those that were held, at positions below this bound
+-- `need` units came to those that were held, at positions below this bound
 record AreMore (need bound : ℕ) (was now : HeldUnits) : Type 0 where
   pub count : length now.positions ≡ length was.positions + need
   pub below : All (λ (p : ℕ). p < bound) now.positions

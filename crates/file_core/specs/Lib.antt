@@ -11,4 +11,4 @@ pub mod Examples
 pub mod Pulls
 pub mod PullAnswers
 pub mod StoredPlaces
-pub mod Clearings
+pub mod ClearFiles

@@ -9,7 +9,7 @@ ghost use Rattle.file_history.specs.Step.{Clears};
 ghost use Rattle.file_core.specs.Notes.{noted};
 ghost use Rattle.file_core.specs.StoredGroups.{list_of};
 ghost use Rattle.file_core.specs.PullAnswers.{group_of};
-ghost use Rattle.file_core.specs.Clearings.{AnswersFirst, AnswersInode, IsClearAt, IsClearInodeAt, IsFirstUnclear, are_clean};
+ghost use Rattle.file_core.specs.ClearFiles.{AnswersFirst, AnswersInode, IsClearAt, IsClearInodeAt, IsFirstUnclear, are_clean};
 ghost use Rattle.file_core.specs.FileView.{IsFile, IsLater, layout_of, with_note};
 
 use crate::head::Head;
