@@ -26,7 +26,7 @@ mirror generation a b = record { generation = generation; n = 1; m = 1; places =
 abbrev told : ℕ → ℕ → FileEvent → List ℕ → NotedEntry
 told call epoch event payload = record { entry = record { by = by_call call; epoch = epoch; event = event }; payload = payload }
 
--- the file is created, and then written and read, each after so many entries of the board
+-- the file is created, and then written and read, after `written` and `read` entries of the board
 abbrev log : ℕ → ℕ → List NotedEntry
 log written read =
     told 1 0 (Created (mirror 0 (placed 1 0) (placed 2 0))) []

@@ -115,7 +115,7 @@ low_bits-suc b i =
     ap (λ (n : ℕ). b % 2 ^ n) (sym (one-add i)) ∙ mod-pow-add b 1 i
     ∙ bit-over (bit_at b i) i (b % 2 ^ i) (bit_at-lt b i) (mod-lt b (pow_pos i))
 
--- the bits of a byte are one doubled so many times
+-- bit i of a byte is one doubled i times
 bits_are_doubled : all_below (λ i. doubled_times i 1 == 2 ^ i) 8 ≡ true
 unfolding doubled doubled_times
 bits_are_doubled = refl

@@ -5,7 +5,7 @@ use Rattle.galois.specs.Field.{IsByte, field_sum, doubled, doubled_times, produc
 use Rattle.galois.proofs.FieldSums.{all_below, all_below_at, same_from_sum}
 use Rattle.galois.proofs.FieldProducts.{product-byte, product_comm, product_assoc, one-product, product-one, product-zero, zero-product}
 
--- the product of the next so many squares of a byte
+-- the product of the next k squares of a byte
 squares : ℕ → ℕ → ℕ
 squares zero x = 1
 squares (suc k) x = field_product (field_product x x) (squares k (field_product x x))

@@ -14,7 +14,7 @@ field_sum a b = bit_xor a b
 unfoldable pub doubled : ℕ → ℕ
 doubled a = if nat_lt (2 * a) 256 then 2 * a else field_sum (2 * a) 0x11D
 
--- a byte doubled so many times
+-- a byte doubled i times
 unfoldable pub doubled_times : ℕ → ℕ → ℕ
 doubled_times zero a = a
 doubled_times (suc i) a = doubled (doubled_times i a)

@@ -18,7 +18,7 @@ abbrev pub or_else : Option Waits → Option Waits → Option Waits
 or_else None other = other
 or_else (Some waits) other = Some waits
 
--- it waits for the first three of these, where there are so many
+-- it waits for the first three of these, where there are three
 abbrev pub counted_by : List JobView → Option Waits
 counted_by [] = None
 counted_by (a ∷ []) = None

@@ -14,7 +14,7 @@ none_up_to (suc n) node usable none =
     let before : drives_on n node usable ≡ 0 = none_up_to n node usable (λ d some within. none d some (omega arith)) in
     ap (λ (k : ℕ). k + cond (usable (record { node = node; drive = suc n })) 1 0) before ∙ ap (λ b. 0 + cond b 1 0) here
 
--- a node none of whose drives is usable, of those behind the first so many and of those, has none
+-- a node has no usable drive if none is usable among its first drives, nor among those behind them
 pub drives_on_none : (n first node : ℕ) (usable : Drive → Bool)
     → ((d : ℕ) → first < d → d ≤ n → usable (record { node = node; drive = d }) ≡ false)
     → ((d : ℕ) → 0 < d → d ≤ first → usable (record { node = node; drive = d }) ≡ false) → drives_on n node usable ≡ 0

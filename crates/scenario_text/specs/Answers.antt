@@ -43,7 +43,7 @@ FitsOp (Fail drive) = IsDrive drive
 abbrev pub text_of_create : List ℕ → List ℕ
 text_of_create name = codes "create " ++ name
 
--- the text that reads so many bytes of the file
+-- the text that reads `len` bytes of the file
 abbrev pub text_of_read : List ℕ → ℕ → ℕ → List ℕ
 text_of_read name offset len = codes "read " ++ (name ++ (codes " " ++ (decimal offset ++ 32 ∷ decimal len)))
 

@@ -51,7 +51,7 @@ HasKept-zeros t zeros =
     omega (arith, taken, given)
 
 module _ {S : Type 0} where
-  -- each seat, numbered from here on, took so many slots more than it gave
+  -- each seat, numbered from here on, took its number of slots more than it gave
   abbrev pub AreKeptFrom : ℕ → List (Seat (PoolView S)) → List ℕ → Type 0
   AreKeptFrom number [] [] = Unit {0}
   AreKeptFrom number [] (k ∷ ks) = ⊥
