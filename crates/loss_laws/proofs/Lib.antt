@@ -1,0 +1,2 @@
+pub mod BorneLosses
+mod WorkedLosses
