@@ -1,0 +1,6 @@
+pub mod StandingGroups
+pub mod ChangedRuns
+mod SingleGroups
+pub mod SoundFiles
+pub mod LaterLogs
+mod WorkedMaps

@@ -1,0 +1,3 @@
+pub mod MappedGroups
+pub mod Limits
+pub mod Laws
