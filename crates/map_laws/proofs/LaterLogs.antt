@@ -20,6 +20,7 @@ use Rattle.map_laws.specs.Laws.{InodesAreSpelled, MappedGenerationsStay, MappedG
 use Rattle.map_laws.proofs.StandingGroups.{stands-all}
 use Rattle.map_laws.proofs.ChangedRuns.{Stays, stays}
 use Rattle.map_laws.proofs.SoundFiles.{IsNext, IsSound, sound_next}
+use Rattle.map_laws.proofs.EventGroups.{fresh_of, gone_of}
 
 -- a later file: each group of its map whose generation is no new one stays
 pub record IsLater (unit : ℕ) (l later : Layout) (bytes later_bytes : List ℕ) : Type 0 where
@@ -35,23 +36,24 @@ same_file : (unit : ℕ) (l : Layout) (bytes : List ℕ) → IsLater unit l l by
 same_file unit l bytes = record { next = omega arith; stays = λ g first mapped early. record { stood = mapped; bytes = refl } }
 
 -- one entry more
-one_later : (unit count : ℕ) (l after later : Layout) (bytes after_bytes later_bytes : List ℕ) → IsNext unit count l after bytes after_bytes
+one_later : (unit count : ℕ) (gone : List ℕ) (fresh : List Group) (l after later : Layout) (bytes after_bytes later_bytes : List ℕ) → IsNext unit count gone fresh l after bytes after_bytes
     → IsLater unit after later after_bytes later_bytes → IsLater unit l later bytes later_bytes
-one_later unit count l after later bytes after_bytes later_bytes step rest = record {
+one_later unit count gone fresh l after later bytes after_bytes later_bytes step rest = record {
   next = let a = step.later in let b = rest.next in omega (arith, a, b);
   stays = λ g first mapped early.
       let a = step.later in
       let stood = rest.stays g first mapped (omega (arith, a, early)) in
-      let here = stays l.next unit l.groups after.groups bytes after_bytes step.changed g first stood.stood early in
+      let here = stays l.next unit gone fresh l.groups after.groups bytes after_bytes step.changed g first stood.stood early in
       record { stood = here.stood; bytes = stood.bytes ∙ here.bytes };
 }
 
 -- the step of one entry, as the log with it says
-step : (world : World) (log : List NotedEntry) (t : NotedEntry) → IsShape world.shape → IsLevel world.level → RequestsLevel t.entry.event
+pub step : (world : World) (log : List NotedEntry) (t : NotedEntry) → IsShape world.shape → IsLevel world.level → RequestsLevel t.entry.event
     → length log + 1 ≤ 4194304 → IsSound world.shape.unit (length log) (layout_after world.level log) (bytes_after log) → IsFileStepWhere ⊥ world log t
-    → IsNext world.shape.unit (length log) (layout_after world.level log) (layout_after world.level (log ++ t ∷ [])) (bytes_after log) (bytes_after (log ++ t ∷ []))
+    → IsNext world.shape.unit (length log) (gone_of t.entry.event (layout_after world.level log).groups) (fresh_of t.entry.event)
+    (layout_after world.level log) (layout_after world.level (log ++ t ∷ [])) (bytes_after log) (bytes_after (log ++ t ∷ []))
 step world log t is level requests limit sound legal =
-    subst (λ (x : Layout × List ℕ). IsNext world.shape.unit (length log) (layout_after world.level log) x.0 (bytes_after log) x.1)
+    subst (λ (x : Layout × List ℕ). IsNext world.shape.unit (length log) (gone_of t.entry.event (layout_after world.level log).groups) (fresh_of t.entry.event) (layout_after world.level log) x.0 (bytes_after log) x.1)
     (λ i. (sym (layout_after-push world.level log t) i, sym (bytes_after-push log t) i))
     (sound_next (moment_at world t.entry.epoch) world.level (length log) log (layout_after world.level log) t.payload t.entry.event is level requests limit sound legal.event)
 
@@ -69,11 +71,11 @@ reached (t ∷ ts) world log is level requests limit sound legal =
     subst (λ (all : List NotedEntry). IsReached world log all) (append_assoc log (t ∷ []) ts)
     (record {
       sound = rest.sound;
-      later = one_later world.shape.unit (length log) (layout_after world.level log) (layout_after world.level (log ++ t ∷ []))
+      later = one_later world.shape.unit (length log) (gone_of t.entry.event (layout_after world.level log).groups) (fresh_of t.entry.event) (layout_after world.level log) (layout_after world.level (log ++ t ∷ []))
           (layout_after world.level ((log ++ t ∷ []) ++ ts)) (bytes_after log) (bytes_after (log ++ t ∷ [])) (bytes_after ((log ++ t ∷ []) ++ ts)) next rest.later;
     })
 
-legal_parts : (log more : List NotedEntry) (world : World) (before : List NotedEntry) → IsLegalFrom (log ++ more) ⊥ world before
+pub legal_parts : (log more : List NotedEntry) (world : World) (before : List NotedEntry) → IsLegalFrom (log ++ more) ⊥ world before
     → IsLegalFrom log ⊥ world before × IsLegalFrom more ⊥ world (before ++ log)
 legal_parts [] more world before legal = (tt, subst (IsLegalFrom more ⊥ world) (sym (append-nil before)) legal)
 legal_parts (t ∷ ts) more world before legal =

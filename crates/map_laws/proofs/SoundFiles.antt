@@ -34,6 +34,7 @@ use Rattle.map_changes.proofs.SplicedLists.{All-spliced, in_three}
 use Rattle.map_changes.proofs.ChangedPlaces.{All-of-places}
 use Rattle.map_changes.proofs.ChangedInodes.{changed_inodes_are_spelled, numbered_below, numbered_last}
 use Rattle.map_laws.specs.Limits.{RequestsLevel}
+use Rattle.map_laws.proofs.EventGroups.{fresh_of, gone_of}
 use Rattle.map_laws.proofs.ChangedRuns.{IsChanged, emptied, unchanged}
 use Rattle.map_laws.proofs.SingleGroups.{IsParted, drop_front, drop_whole, having, parted_at, replaced_at, replaced_none}
 
@@ -49,10 +50,10 @@ pub record IsSound (unit count : ℕ) (l : Layout) (bytes : List ℕ) : Type 0 w
   pub spelled : l.present ≡ true → IsInode (inode_of unit l)
 
 -- what an entry makes of such a file
-pub record IsNext (unit count : ℕ) (l after : Layout) (bytes after_bytes : List ℕ) : Type 0 where
+pub record IsNext (unit count : ℕ) (gone : List ℕ) (fresh : List Group) (l after : Layout) (bytes after_bytes : List ℕ) : Type 0 where
   pub sound : IsSound unit (count + 1) after after_bytes
   pub later : l.next ≤ after.next
-  pub changed : IsChanged l.next unit l.groups after.groups bytes after_bytes
+  pub changed : IsChanged l.next unit gone fresh l.groups after.groups bytes after_bytes
 
 numbered_from : (next least : ℕ) (gs : List Group) (inode : Group) → AreNumbered next gs inode → least ≤ next
     → AllByRecursion (λ (g : Group). least ≤ g.generation) gs
@@ -124,11 +125,11 @@ module _ (now : Moment) (declared : Level) (count : ℕ) (log : List NotedEntry)
   pub run : IsRunOf now.shape.unit l (bytes_after log) payload offset first many change
   run = writes_replace_runs now log l offset size first many change payload (sound.spelled w.present) sound.size some w affected
 
-  written_changed : IsChanged l.next now.shape.unit l.groups (replaced change.old change.new l.groups) (bytes_after log) (overwrite (bytes_after log) offset payload)
+  written_changed : IsChanged l.next now.shape.unit change.old change.new l.groups (replaced change.old change.new l.groups) (bytes_after log) (overwrite (bytes_after log) offset payload)
   written_changed = record {
     front = take first l.groups;
     run = take many (drop first l.groups);
-    fresh = change.new;
+    gone_is = w.old ∙ ap generations_of affected.run;
     back = drop (first + many) l.groups;
     old_is = in_three l.groups first many;
     new_is = run.run;
@@ -146,7 +147,7 @@ module _ (now : Moment) (declared : Level) (count : ℕ) (log : List NotedEntry)
       two_parts : (a b unit : ℕ) → (a + b) * unit ≡ a * unit + b * unit
       two_parts a b unit = grind arith
 
-  pub written : IsNext now.shape.unit count l (layout_after_event declared (event.Written offset len size change) l) (bytes_after log) (overwrite (bytes_after log) offset payload)
+  pub written : IsNext now.shape.unit count change.old change.new l (layout_after_event declared (event.Written offset len size change) l) (bytes_after log) (overwrite (bytes_after log) offset payload)
   written =
       let last = numbered_last l.next change.new change.inode w.numbers in record {
         sound = sound_after now declared count log l change size first many (overwrite (bytes_after log) offset payload) sound w.present limit run.run w.numbers w.groups
@@ -217,7 +218,7 @@ record IsPlaced (unit : ℕ) (l : Layout) (gens : List ℕ) (new : List Group) (
   units : data_units (replaced gens new l.groups) ≡ data_units l.groups
   at_level : AllByRecursion (λ (g : Group). AtLevel g l.requested) new
   places : AllByRecursion (λ (g : Group). AllByRecursion IsPlace g.places) new
-  changed : IsChanged l.next unit l.groups (replaced gens new l.groups) bytes bytes
+  changed : IsChanged l.next unit gens new l.groups (replaced gens new l.groups) bytes bytes
 
 placed_none : (unit : ℕ) (l : Layout) (bytes : List ℕ) → IsPlaced unit l [] [] bytes
 placed_none unit l bytes =
@@ -228,7 +229,7 @@ placed_none unit l bytes =
       units = ap data_units stays;
       at_level = tt;
       places = tt;
-      changed = subst (λ (gs : List Group). IsChanged l.next unit l.groups gs bytes bytes) (sym stays) (unchanged l.next unit l.groups bytes);
+      changed = subst (λ (gs : List Group). IsChanged l.next unit [] [] l.groups gs bytes bytes) (sym stays) (unchanged l.next unit l.groups bytes);
     }
 
 placed_one : (unit : ℕ) (l : Layout) (old : Group) (new : List Group) (bytes : List ℕ) → IsParted l.groups old → AreFit l old.n new
@@ -246,7 +247,7 @@ placed_one unit l old new bytes p fit late =
       changed = record {
         front = p.front;
         run = old ∷ [];
-        fresh = new;
+        gone_is = refl;
         back = p.back;
         old_is = p.parted;
         new_is = is;
@@ -284,7 +285,7 @@ placed_at now l (g ∷ h ∷ gs) change bytes is valid mapped gens form late = a
 -- a placement
 pub placed : (now : Moment) (declared : Level) (count : ℕ) (log : List NotedEntry) (l : Layout) (job : _) (change : Change)
     → IsShape now.shape → IsSound now.shape.unit count l (bytes_after log) → count + 1 ≤ 4194304 → Places now l change
-    → IsNext now.shape.unit count l (layout_after_event declared (event.Placed job change) l) (bytes_after log) (bytes_after log)
+    → IsNext now.shape.unit count change.old change.new l (layout_after_event declared (event.Placed job change) l) (bytes_after log) (bytes_after log)
 placed now declared count log l job change is sound limit w =
     let valid = sound.spelled w.present in
     let last = numbered_last l.next change.new change.inode w.numbers in
@@ -300,7 +301,7 @@ placed now declared count log l job change is sound limit w =
 -- a file that is created
 created : (now : Moment) (declared : Level) (count : ℕ) (l : Layout) (bytes : List ℕ) (inode : Group) → IsShape now.shape → IsLevel declared
     → IsSound now.shape.unit count l bytes → inode.generation ≡ l.next
-    → IsNext now.shape.unit count l (layout_after_event declared (event.Created inode) l) bytes []
+    → IsNext now.shape.unit count (generations_of l.groups) [] l (layout_after_event declared (event.Created inode) l) bytes []
 created now declared count l bytes inode is level sound number = record {
   sound = record {
     level = level;
@@ -328,7 +329,7 @@ more unit count l bytes sound = let few = sound.few in omega (arith, few)
 
 -- an entry that moves no unit
 quiet : (unit count : ℕ) (l after : Layout) (bytes : List ℕ) → IsSound unit count l bytes → IsLevel after.requested → after.size ≡ l.size
-    → after.groups ≡ l.groups → after.next ≡ l.next → after.present ≡ l.present → after.level ≡ l.level → IsNext unit count l after bytes bytes
+    → after.groups ≡ l.groups → after.next ≡ l.next → after.present ≡ l.present → after.level ≡ l.level → IsNext unit count [] [] l after bytes bytes
 quiet unit count l after bytes sound level size groups next present placed = record {
   sound = record {
     level = level;
@@ -341,12 +342,12 @@ quiet unit count l after bytes sound level size groups next present placed = rec
         (sound.spelled (sym present ∙ there));
   };
   later = omega (arith, next);
-  changed = subst (λ (gs : List Group). IsChanged l.next unit l.groups gs bytes bytes) (sym groups) (unchanged l.next unit l.groups bytes);
+  changed = subst (λ (gs : List Group). IsChanged l.next unit [] [] l.groups gs bytes bytes) (sym groups) (unchanged l.next unit l.groups bytes);
 }
 
 -- a file that is deleted
 deleted : (unit count : ℕ) (declared : Level) (l : Layout) (bytes : List ℕ) → IsLevel declared → IsSound unit count l bytes
-    → IsNext unit count l (layout_after_event declared event.Deleted l) bytes []
+    → IsNext unit count (generations_of l.groups) [] l (layout_after_event declared event.Deleted l) bytes []
 deleted unit count declared l bytes level sound = record {
   sound = record {
     level = level;
@@ -362,7 +363,7 @@ deleted unit count declared l bytes level sound = record {
 
 pub sound_next : (now : Moment) (declared : Level) (count : ℕ) (log : List NotedEntry) (l : Layout) (payload : List ℕ) (e : FileEvent)
     → IsShape now.shape → IsLevel declared → RequestsLevel e → count + 1 ≤ 4194304 → IsSound now.shape.unit count l (bytes_after log)
-    → IsEvent now log l payload e → IsNext now.shape.unit count l (layout_after_event declared e l) (bytes_after log) (bytes_after_event e payload (bytes_after log))
+    → IsEvent now log l payload e → IsNext now.shape.unit count (gone_of e l.groups) (fresh_of e) l (layout_after_event declared e l) (bytes_after log) (bytes_after_event e payload (bytes_after log))
 sound_next now declared count log l payload (event.Created inode) is level requests limit sound legal =
     created now declared count l (bytes_after log) inode is level sound legal.number
 sound_next now declared count log l payload event.Deleted is level requests limit sound legal = deleted now.shape.unit count declared l (bytes_after log) level sound

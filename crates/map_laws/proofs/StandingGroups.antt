@@ -1,9 +1,12 @@
 -- Groups that stand in a map.
-use Rattle.std.proofs.Common.{◌≡◌, ℕ, ◌+◌, ◌≤◌, ◌⊎◌, inl, inr, List, [], ◌∷◌, ◌++◌, ap, subst, arith}
+use Rattle.std.proofs.Common.{◌≡◌, ℕ, ◌+◌, ◌≤◌, ◌==◌, Bool, true, false, ◌||◌, ◌⊎◌, inl, inr, List, [], ◌∷◌, ◌++◌, ap, subst, arith}
 use Rattle.std.specs.List.{AllByRecursion}
+use Rattle.std.proofs.lemmas.Bool.{eq-eqb}
 use Rattle.std.proofs.lemmas.List.Sums.{sum_by-cons}
 use Rattle.domains.specs.declared.group.Group.{Group}
 use Rattle.inode_codec.specs.Inode.{data_units}
+use Rattle.file_history.specs.Layout.{is_among}
+use Rattle.file_history.specs.WriteRule.{generations_of}
 use Rattle.map_laws.specs.MappedGroups.{StandsFrom}
 
 -- at an equal start
@@ -58,3 +61,14 @@ pub stands-all : (P : Group → Type 0) (gs : List Group) (start : ℕ) (g : Gro
 stands-all P [] start g first all stands = absurd stands
 stands-all P (h ∷ hs) start g first all (inl here) = subst P here.0 all.0
 stands-all P (h ∷ hs) start g first all (inr later) = stands-all P hs (start + h.n) g first all.1 later
+
+-- its generation is among theirs
+pub stands-among : (gs : List Group) (start : ℕ) (g : Group) (first : ℕ) → StandsFrom gs start g first → is_among (generations_of gs) g.generation ≡ true
+stands-among [] start g first stands = absurd stands
+stands-among (h ∷ hs) start g first (inl here) =
+    ap (λ (b : Bool). b || is_among (generations_of hs) g.generation) (eq-eqb h.generation g.generation (ap (λ (k : Group). k.generation) here.0))
+stands-among (h ∷ hs) start g first (inr later) = or_right (h.generation == g.generation) (is_among (generations_of hs) g.generation) (stands-among hs (start + h.n) g first later)
+  where
+    or_right : (a b : Bool) → b ≡ true → (a || b) ≡ true
+    or_right true b is = λ i. true
+    or_right false b is = is
