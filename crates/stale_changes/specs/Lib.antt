@@ -1,0 +1,2 @@
+pub mod Staleness
+pub mod PlaceMarks
