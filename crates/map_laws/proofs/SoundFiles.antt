@@ -159,7 +159,7 @@ module _ (now : Moment) (declared : Level) (count : ℕ) (log : List NotedEntry)
       }
 
 -- groups that share a number of units have as many in all
-chunks : (gs : List Group) (count width : ℕ) → AreChunks count width (map (λ (g : Group). g.n) gs) → data_units gs ≡ count
+pub chunks : (gs : List Group) (count width : ℕ) → AreChunks count width (map (λ (g : Group). g.n) gs) → data_units gs ≡ count
 chunks [] count width are = sym are
 chunks (g ∷ []) count width are = let units = sum_by-cons (λ (k : Group). k.n) g [] in let same = are.0 in omega (arith, units, same)
 chunks (g ∷ h ∷ gs) count width are =

@@ -1,0 +1,2 @@
+pub mod ReadyWrites
+pub mod Laws
