@@ -6,3 +6,4 @@ mod NumberedGroups
 mod MadeWrites
 mod MadeNow
 mod KeptBytes
+mod WorkedCopies
