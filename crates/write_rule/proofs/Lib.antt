@@ -10,3 +10,4 @@ pub mod NewBytesByPlace
 pub mod RunLemmas
 pub mod ChunkCounts
 mod WorkedRuns
+pub mod NamedRuns

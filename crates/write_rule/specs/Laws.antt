@@ -9,6 +9,7 @@ use Rattle.file_history.specs.Step.{Writes}
 use Rattle.file_history.specs.WriteRule.{groups_after_write}
 use Rattle.file_history.specs.declared.entry.Change.{Change}
 use Rattle.file_history.specs.declared.entry.NotedEntry.{NotedEntry}
+use Rattle.map_changes.specs.ChangedMaps.{first_of}
 use Rattle.write_rule.specs.Runs.{IsAffectedRun, first_replaced, stop_replaced}
 use Rattle.write_rule.specs.SplicedRun.{IsRunOf}
 use Rattle.write_rule.specs.NewBytes.{StaysAround, bytes_of, padded_slice}
@@ -39,6 +40,16 @@ WritesKeepUnits =
     → (w : Writes now log l offset size change payload)
     → IsAffectedRun now.shape.unit l offset (length payload) w.width first count
     → data_units (replaced change.old change.new l.groups) ≡ units_for now.shape.unit size
+
+-- The run that a legal write replaces is the one that its entry names: it begins at the first of the old generations, and is as long
+-- as they are many. It has all bytes that the write changes, and the map as many data units as a file of the new size.
+abbrev pub WritesNameTheirRun : Type 0
+WritesNameTheirRun =
+    (now : Moment) (log : List NotedEntry) (l : Layout) (offset size : ℕ) (change : Change) (payload : List ℕ)
+    → IsInode (inode_of now.shape.unit l) → l.size ≡ length (bytes_after log) → 1 ≤ length payload
+    → (w : Writes now log l offset size change payload)
+    → IsRunOf now.shape.unit l (bytes_after log) payload offset (first_of change.old l.groups) (length change.old) change
+    × (data_units (replaced change.old change.new l.groups) ≡ units_for now.shape.unit size)
 
 -- And it has as many groups as the rule says.
 abbrev pub WritesCountGroups : Type 0

@@ -1,6 +1,6 @@
 //! The laws of a write's run: each function's contract is one, and calling it costs nothing.
 
-ghost use Rattle.write_rule.specs.Laws.{AffectedAreRuns, WritesReplaceRuns, WritesKeepUnits, WritesCountGroups, NewBytesAreWritten};
+ghost use Rattle.write_rule.specs.Laws.{AffectedAreRuns, WritesReplaceRuns, WritesKeepUnits, WritesCountGroups, WritesNameTheirRun, NewBytesAreWritten};
 
 /// The groups that a write affects are a run of the map.
 pub fn affected_are_runs()
@@ -15,6 +15,11 @@ pub fn writes_replace_runs()
 /// After a legal write the map has as many data units as a file of that size.
 pub fn writes_keep_units()
     ensures { WritesKeepUnits }
+{}
+
+/// The run that a legal write replaces is the one that its entry names.
+pub fn writes_name_their_run()
+    ensures { WritesNameTheirRun }
 {}
 
 /// After a legal write the map has as many groups as the rule says.
