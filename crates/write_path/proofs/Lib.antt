@@ -2,3 +2,9 @@ mod ReleasedSlots
 mod ReleasedAccounts
 mod HeldSlots
 mod RemovalLemmas
+mod CreatedInode
+mod InodeRoom
+mod InodeSlots
+mod CreationLemmas
+mod InodePlacement
+mod InodeCopies
