@@ -1,0 +1,3 @@
+mod PlainLists
+mod PlainForms
+mod PlainTexts
