@@ -16,4 +16,5 @@ pub mod RunLegality
 pub mod ReturnedSlots
 pub mod RackCounts
 pub mod ResultLemmas
+pub mod SourceLemmas
 pub mod FaultLines

@@ -11,7 +11,7 @@ use Rattle.file_history.specs.declared.entry.NotedEntry.{NotedEntry}
 use Rattle.plain_file.specs.declared.op.PlainOp.{PlainOp}
 use Rattle.scenario.specs.declared.op.Op.{Op}
 use Rattle.scenario.specs.declared.op.Op.TheVariants as op
-use Rattle.scenario_text.specs.FirstForm.{write_count}
+use Rattle.first_form.specs.FirstForm.{write_count}
 use Rattle.flex_run.specs.Operations.{DoesPlain, DoesFail, fail_entry, slots_taken}
 use Rattle.flex_run.specs.RunProgress.{MayGoOn}
 use Rattle.flex_run.proofs.ListGrowth.{All-push}

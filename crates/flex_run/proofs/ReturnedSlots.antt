@@ -29,7 +29,7 @@ use Rattle.file_history.specs.declared.entry.NotedEntry.{NotedEntry}
 use Rattle.scenario.specs.declared.op.Op.{Op}
 use Rattle.scenario.specs.declared.scenario.FileDecl.{FileDecl}
 use Rattle.scenario.specs.declared.scenario.Scenario.{Scenario}
-use Rattle.scenario_text.specs.FirstForm.{IsFirstForm}
+use Rattle.first_form.specs.FirstForm.{IsFirstForm}
 use Rattle.report.specs.Script.{noted_entries}
 use Rattle.flex_run.specs.RetiredPlaces.{retired_places}
 use Rattle.flex_run.specs.StockOrder.{stock_order, bytes_or_none, returned_of, PutsBack}

@@ -15,7 +15,7 @@ use Rattle.file_history.specs.declared.entry.NotedEntry.{NotedEntry}
 use Rattle.scenario.specs.declared.op.Op.{Op}
 use Rattle.scenario.specs.declared.scenario.FileDecl.{FileDecl}
 use Rattle.scenario.specs.declared.scenario.Scenario.{Scenario}
-use Rattle.scenario_text.specs.FirstForm.{IsFirstForm}
+use Rattle.first_form.specs.FirstForm.{IsFirstForm}
 use Rattle.report.specs.Script.{noted_entries, noted_in, FitsScript, board_calls, file_calls, numbers_where, is_for_board, is_for_file, is_earlier, FollowsScript, HasSerialEpochs, EpochsGoOn, IsFileEntry}
 use Rattle.report.specs.Legal.{AreLegalFiles, IsLegalRunWhere}
 use Rattle.report.specs.declared.logs.Logs.{Logs}

@@ -10,7 +10,7 @@ use Rattle.plain_file.specs.Plain.{StockView, FileView, AllTell}
 use Rattle.scenario.specs.declared.op.Op.{Op}
 use Rattle.scenario.specs.declared.op.Op.TheVariants as op
 use Rattle.scenario.specs.declared.scenario.Scenario.{Scenario}
-use Rattle.scenario_text.specs.FirstForm.{IsFirstForm, IsFirstScript, AreLaterOps, write_count}
+use Rattle.first_form.specs.FirstForm.{IsFirstForm, IsFirstScript, AreLaterOps, write_count}
 use Rattle.held_slots.specs.Slots.{places_from}
 use Rattle.flex_run.specs.StockOrder.{stock_order}
 use Rattle.flex_run.specs.RunProgress.{EachTells, HasLogs, MayGoOn, IsOpOf, all_taken}

@@ -1,4 +1,5 @@
 pub mod Arguments
+pub mod RefusedSources
 pub mod StockOrder
 pub mod RetiredPlaces
 pub mod Operations

@@ -20,7 +20,7 @@ use Rattle.file_history.specs.declared.entry.NotedEntry.{NotedEntry}
 use Rattle.scenario.specs.declared.op.Op.{Op}
 use Rattle.scenario.specs.declared.op.Op.TheVariants as op
 use Rattle.scenario.specs.declared.scenario.Scenario.{Scenario}
-use Rattle.scenario_text.specs.FirstForm.{IsLaterOp, write_count}
+use Rattle.first_form.specs.FirstForm.{IsLaterOp, write_count}
 use Rattle.report.specs.Script.{noted_in, FitsScript, board_calls, file_calls, numbers_where, is_for_board, is_for_file, is_earlier}
 use Rattle.report.specs.Legal.{AreLegalOrders}
 use Rattle.flex_run.specs.RetiredPlaces.{retired_places}

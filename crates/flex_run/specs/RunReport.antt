@@ -7,25 +7,18 @@ use Rattle.flex_io.specs.declared.raw_place.RawPlace.{RawPlace}
 use Rattle.file_history.specs.Refusals.{is_no_room}
 use Rattle.file_history.specs.declared.entry.FileEntry.{FileEntry}
 use Rattle.scenario.specs.declared.scenario.Scenario.{Scenario}
-use Rattle.scenario_text.specs.Spelling.{Spells}
-use Rattle.scenario_text.specs.FirstForm.{IsFirstForm}
+use Rattle.scenario_reader.specs.Answers.{SpellsScenario}
+use Rattle.scenario_rules.specs.declared.rule.BadScenario.{BadScenario}
+use Rattle.first_form.specs.FirstForm.{IsFirstForm}
+use Rattle.first_form.specs.Wholes.{whole_of}
 use Rattle.report.specs.Script.{HasSerialEpochs}
 use Rattle.report.specs.Legal.{IsLegalRunWhere}
 use Rattle.report.specs.Printed.{printed}
 use Rattle.report.specs.declared.logs.Logs.{Logs}
+use Rattle.flex_run.specs.RefusedSources.{IsPlayed, IsPlayable, IsRefused, refusal_line}
 use Rattle.flex_run.specs.RackStates.{RackState, GivesAndTakesAll}
 use Rattle.flex_run.specs.RackFaults.{RackFailed}
 use Rattle.flex_run.specs.RunReturns.{BringsBack}
-
--- the bytes are UTF-8 and spell this scenario, which is of the first form
-pub record IsPlayed (input : List ℕ) (s : Scenario) : Type 0 where
-  pub utf8 : IsUtf8 input
-  pub spelled : Spells input s
-  pub form : IsFirstForm s
-
--- the bytes spell some scenario that is played
-abbrev pub IsPlayable : List ℕ → Type 0
-IsPlayable input = (s : Scenario) × IsPlayed input s
 
 -- no entry of a file is a refusal since drives had no slot left
 abbrev pub HasRoomThroughout : Logs → Type 0
@@ -77,18 +70,30 @@ pub record FailsInRun {S : Type 0} (place_of : S → RawPlace) (faults : S → �
   pub played : IfSome input (λ i. IsPlayed i scenario)
   pub cause : RackFailed place_of faults scenario.shape before now
 
--- the lines that say why there is no report, each after its status
+-- the lines that say why there is no report, each after its status; status 3 has a line for each refusal
 abbrev pub fault_lines : List (ℕ × List ℕ)
 fault_lines =
-    (2, codes "fault words\n") ∷ (3, codes "fault scenario unbuilt 0 0\n") ∷ (4, codes "fault read\n")
+    (2, codes "fault words\n") ∷ (4, codes "fault read\n")
     ∷ (7, codes "fault long\n") ∷ (8, codes "fault rack\n") ∷ []
 
 -- all lines that a run may write in place of a report
 abbrev pub all_fault_lines : List (List ℕ)
 all_fault_lines = codes "fault memory\n" ∷ map (λ (row : ℕ × List ℕ). row.1) fault_lines
 
+-- the text is the line of a refusal, whose cause is there where the source tells its bytes
+pub record IsRefusalLine (input : Option (List ℕ)) (text : List ℕ) : Type 0 where
+  pub bad : BadScenario
+  pub is : text ≡ refusal_line bad
+  pub cause : IfSome input (λ i. IsRefused i bad)
+
+-- the sink took the line of a refusal, whose cause is there where the source tells its bytes
+pub record TookRefusal (input taken_before taken_now : Option (List ℕ)) : Type 0 where
+  pub text : List ℕ
+  pub line : IsRefusalLine input text
+  pub taken : Appends taken_before taken_now text
+
 -- the sink took a prefix of such a line or, where the source tells its bytes, of the report of the run
 pub record TookPrefix (input : Option (List ℕ)) (before now : RackState) (taken_before taken_now : Option (List ℕ)) : Type 0 where
   pub text : List ℕ
-  pub kind : Contains all_fault_lines text ⊎ IfSome input (λ i. IsReport (IsSome before.back) i text before now)
+  pub kind : Contains all_fault_lines text ⊎ IsRefusalLine input text ⊎ IfSome input (λ i. IsReport (IsSome before.back) i text before now)
   pub prefix : AppendsFront taken_before taken_now text

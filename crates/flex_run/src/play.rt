@@ -7,7 +7,7 @@ ghost use Rattle.domains.specs.Level.{two_copies};
 ghost use Rattle.board_history.specs.declared.entry.BoardEntry.{BoardEntry};
 ghost use Rattle.plain_file.specs.Plain.{AllTell, OneEach, HasRoom};
 ghost use Rattle.scenario.specs.declared.op.Op.{Op};
-ghost use Rattle.scenario_text.specs.FirstForm.{IsFirstForm};
+ghost use Rattle.first_form.specs.FirstForm.{IsFirstForm};
 ghost use Rattle.report.specs.Script.{HasSerialEpochs};
 ghost use Rattle.report.specs.Legal.{IsLegalRunWhere};
 ghost use Rattle.flex_run.specs.StockOrder.{PutsBack};

@@ -1,7 +1,12 @@
 //! Why the program ends without a report.
 
-ghost use Rattle.std.specs.Prelude.{◌≡◌};
-ghost use Rattle.flex_run.specs.Stops.{status_of, line_of};
+ghost use Rattle.std.specs.Prelude.{◌≡◌, ◌++◌, IfOk, OnOk, string_bytes};
+ghost use Rattle.flex_run.specs.RefusedSources.{refusal_line};
+
+use operation_rules::Place;
+use scenario_rules::BadScenario;
+use std::alloc::{AllocError, Global};
+use std::fmt::Write;
 
 /// The status where the sink failed.
 pub(crate) const SINK_FAILED: u8 = 5;
@@ -18,26 +23,26 @@ pub(crate) enum RunStop {
     Read,
     /// The source gave more than its limit.
     Long,
-    /// The text is no scenario that can be played.
-    Unbuilt,
+    /// The source breaks a rule of scenarios, or spells one that is not played.
+    Scenario(BadScenario),
     /// The rack or a slot failed.
     Rack,
     Memory,
 }
 
-impl RunStop {
-    /// The line that says it, and the exit status.
-    pub(crate) fn line_and_status(self) -> (&'static str, u8)
-        ensures line { result.0.now ≡ line_of self }
-        ensures status { result.1 ≡ status_of self }
-    {
-        match self {
-            RunStop::Words => ("fault words\n", 2),
-            RunStop::Unbuilt => ("fault scenario unbuilt 0 0\n", 3),
-            RunStop::Read => ("fault read\n", 4),
-            RunStop::Memory => ("fault memory\n", NO_MEMORY),
-            RunStop::Long => ("fault long\n", 7),
-            RunStop::Rack => ("fault rack\n", 8),
-        }
-    }
+/// The line that names the rule and the place.
+pub(crate) fn refusal_line(alloc: Global, bad: BadScenario) -> Result<String, AllocError>
+    ensures { IfOk result (λ line. string_bytes line ≡ refusal_line bad) }
+{
+    let mut line = String::new(alloc);
+    write_refusal(&mut line, bad)?;
+    Ok(line)
+}
+
+#[tactic(auto, unfolding(crate::specs::RefusedSources::refusal_line))]
+fn write_refusal(line: &mut String, bad: BadScenario) -> Result<(), AllocError>
+    ensures { OnOk result (string_bytes line.new ≡ string_bytes line.old ++ refusal_line bad) }
+{
+    let Place { actor, op } = bad.place;
+    writeln!(line, "fault scenario {} {actor} {op}", bad.rule.word())
 }

@@ -75,7 +75,7 @@ fn sources_run_as_documented(rt: HostRuntime) -> Result<(), Fail> {
         ("run", LOSSES, 0, LOSSES_REPORT),
         ("run", ONE_NODE, 0, ONE_NODE_REPORT),
         ("run", EDGES, 0, EDGES_REPORT),
-        ("run", "", 3, "fault scenario unbuilt 0 0\n"),
+        ("run", "", 3, "fault scenario keys 0 0\n"),
         ("play", FIRST, 2, "fault words\n"),
     ] {
         let (answer, sink) = played(alloc, word, source.as_bytes().to_vec(alloc)?)?;
@@ -94,22 +94,45 @@ fn framed(alloc: Global, before: &[u8], behind: &[u8]) -> Result<Vec<u8>, AllocE
 }
 
 #[test]
-fn what_is_not_of_the_form_is_unbuilt(rt: HostRuntime) -> Result<(), Fail> {
+fn a_refused_source_names_its_rule(rt: HostRuntime) -> Result<(), Fail> {
     let alloc = rt.alloc();
     let nothing = b"".as_slice();
-    for (before, behind) in [
-        (nothing, b"\xff".as_slice()),
-        (nothing, b"[[actor]\n".as_slice()),
-        (b"colour = 1\n".as_slice(), nothing),
-        (b"workers = 2\n".as_slice(), nothing),
+    for (before, behind, line) in [
+        (nothing, b"\xff".as_slice(), "fault scenario utf8 0 0\n"),
+        (
+            nothing,
+            b"[[actor]\n".as_slice(),
+            "fault scenario toml 0 0\n",
+        ),
+        (
+            b"colour = 1\n".as_slice(),
+            nothing,
+            "fault scenario keys 0 0\n",
+        ),
+        (
+            b"workers = 2\n".as_slice(),
+            nothing,
+            "fault scenario unbuilt 0 0\n",
+        ),
         (
             nothing,
             b"[[file]]\nname = \"b\"\nlevel = \"2x\"\n".as_slice(),
+            "fault scenario unbuilt 0 0\n",
         ),
-        (nothing, b"[[actor]]\nops = [\"read a 0 5\"]\n".as_slice()),
+        (
+            nothing,
+            b"[[actor]]\nops = [\"read a 0 5\"]\n".as_slice(),
+            "fault scenario unbuilt 0 0\n",
+        ),
+        (
+            nothing,
+            b"[[actor]]\nops = [\"read a 0 5\", \"read b 0 5\"]\n".as_slice(),
+            "fault scenario name 2 2\n",
+        ),
     ] {
-        let (answer, _) = played(alloc, "run", framed(alloc, before, behind)?)?;
+        let (answer, sink) = played(alloc, "run", framed(alloc, before, behind)?)?;
         assert_eq!(rt; answer, 3);
+        assert_eq!(rt; sink.as_slice(), line.as_bytes());
     }
     Ok(())
 }

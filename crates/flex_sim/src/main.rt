@@ -11,7 +11,7 @@ use std::{env, io};
 /// The statuses for which standard error explains what to do (docs/FORMATS.md, "Statuses").
 const BAD_WORDS: u8 = 2;
 
-const UNBUILT: u8 = 3;
+const BAD_SCENARIO: u8 = 3;
 
 const NO_MEMORY: u8 = 6;
 
@@ -48,12 +48,12 @@ fn explain(rt: &HostRuntime, status: u8) {
         BAD_WORDS => {
             let _ = eprintln!(rt; "usage: flex_sim run < SCENARIO.toml > REPORT");
         }
-        UNBUILT => {
+        BAD_SCENARIO => {
             let _ = eprintln!(rt;
-                "flex_sim: not a scenario that this version plays: one file at level 2x, one worker, one actor"
+                "flex_sim: the line names the first rule that the scenario breaks; unbuilt: this version plays one file at 2x,"
             );
             let _ = eprintln!(rt;
-                "that creates the file, writes it at most once, reads it and fails drives (docs/FORMATS.md)"
+                "one worker, one actor that creates, writes once, reads and fails drives (docs/FORMATS.md)"
             );
         }
         _ => {}

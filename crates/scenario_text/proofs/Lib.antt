@@ -1,6 +1,0 @@
-mod Views
-mod Numbers
-mod Operations
-mod Scripts
-mod Tails
-mod Documents
