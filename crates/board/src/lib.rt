@@ -14,6 +14,3 @@ pub use board::{Board, Grow};
 pub use board_history::{BoardEntry, Effect, Order, State};
 pub use board_view::View;
 pub use views::view;
-
-#[cfg(test)]
-mod tests;

@@ -11,6 +11,3 @@ pub use checkpoint::{Checkpoint, ItemSaved, JobSaved};
 pub use fault::{BadCheckpoint, CheckpointFault, CheckpointRule};
 pub use reading::read;
 pub use writing::write;
-
-#[cfg(test)]
-mod tests;

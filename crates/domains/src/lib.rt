@@ -11,8 +11,6 @@ mod node;
 mod place;
 mod room;
 mod shape;
-#[cfg(test)]
-mod tests;
 
 pub use by::By;
 pub use drive::DriveId;

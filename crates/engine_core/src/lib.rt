@@ -24,6 +24,3 @@ pub use outcomes::{ItemEnd, JobFault, Ran};
 pub use outs::OutItem;
 pub use saved::RestartRefusal;
 pub use work::{Task, Work};
-
-#[cfg(test)]
-mod tests;

@@ -4,7 +4,6 @@ pub mod DriveSetUnion
 pub mod GroupLookups
 pub mod CreatedFile
 pub mod FileAccounts
-pub mod ExampleFile
 pub mod PullLemmas
 pub mod PullCauses
 pub mod PulledSlots

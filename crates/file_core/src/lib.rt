@@ -30,6 +30,3 @@ pub use notes::Absent;
 pub use pull::{Part, PullRefusal, Pulled, PulledGroup};
 pub use state::FileState;
 pub use stripe::Stripe;
-
-#[cfg(test)]
-mod tests;

@@ -41,6 +41,3 @@ pub use sure_piece::SurePiece;
 pub use sure_rack::SureRack;
 pub use sure_sink::SureSink;
 pub use sure_source::SureSource;
-
-#[cfg(test)]
-mod tests;

@@ -10,6 +10,3 @@ mod words;
 pub use play::{PlayFault, play_serial};
 pub use top::flex;
 pub use words::is_run;
-
-#[cfg(test)]
-mod tests;

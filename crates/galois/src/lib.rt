@@ -6,8 +6,6 @@ mod interpolation;
 pub mod laws;
 mod polynomial;
 mod tables;
-#[cfg(test)]
-mod tests;
 
 pub use field::{add, inv, mul};
 pub use interpolation::{Point8, interpolate};

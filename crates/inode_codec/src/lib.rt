@@ -12,6 +12,3 @@ pub use fault::{BadInode, InodeFault, InodeRule};
 pub use inode::Inode;
 pub use reader::read;
 pub use writer::{HEAD_LEN, append_group, append_head, group_len, write};
-
-#[cfg(test)]
-mod tests;

@@ -17,6 +17,3 @@ pub use kind::{JobKind, Sets};
 pub use phase::{Items, Phase};
 pub use rank::{JobView, rank_before, shares};
 pub use waits::{Waits, why};
-
-#[cfg(test)]
-mod tests;

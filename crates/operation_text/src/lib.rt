@@ -15,6 +15,3 @@ pub use digits::Digits;
 pub use job_name::JobName;
 pub use named_op::{DriveOrder, FileAction, JobOrder, NamedOp, Payload};
 pub use reading::{OpFault, read_op};
-
-#[cfg(test)]
-mod tests;

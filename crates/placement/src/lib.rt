@@ -11,6 +11,3 @@ pub use draw_call::draw;
 pub use place_call::place;
 pub use refusal::{NoRoom, PlaceRefusal};
 pub use slot_search::EmptyAt;
-
-#[cfg(test)]
-mod tests;

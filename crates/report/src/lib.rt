@@ -5,8 +5,6 @@ mod board_lines;
 mod file_lines;
 mod logs;
 mod printed;
-#[cfg(test)]
-mod tests;
 mod words;
 
 pub use board_lines::write_board_entry;

@@ -15,6 +15,3 @@ pub use board_line::read_board_entry;
 pub use count_line::read_count;
 pub use file_line::read_file_entry;
 pub use words::after;
-
-#[cfg(test)]
-mod tests;

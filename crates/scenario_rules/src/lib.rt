@@ -11,6 +11,3 @@ mod rule;
 
 pub use reading::{NamedScenario, read_named};
 pub use rule::{BadScenario, Rule, ScenarioFault};
-
-#[cfg(test)]
-mod tests;

@@ -9,6 +9,3 @@ mod tally;
 pub use chronicle::DriveSlots;
 pub use pool::Pool;
 pub use tally::Tally;
-
-#[cfg(test)]
-mod tests;

@@ -12,6 +12,3 @@ mod yard;
 
 pub use counts::{Counts, Move};
 pub use yard::{Yard, YardParts};
-
-#[cfg(test)]
-mod tests;

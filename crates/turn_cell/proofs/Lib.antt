@@ -12,4 +12,3 @@ pub mod SeatLists
 pub mod CellEnd
 pub mod ClosedSeats
 pub mod ClosedValue
-pub mod WrittenNumbers

@@ -18,6 +18,3 @@ pub use chronicle::{Chronicle, Note};
 pub use seat::Seat;
 pub use seat_tallies::SeatTallies;
 pub use turn::Turn;
-
-#[cfg(test)]
-mod tests;

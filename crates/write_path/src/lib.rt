@@ -8,6 +8,3 @@ mod removal;
 
 pub use creation::{CreateRefusal, create};
 pub use removal::{RemoveRefusal, remove};
-
-#[cfg(test)]
-mod tests;

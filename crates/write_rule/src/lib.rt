@@ -5,8 +5,6 @@
 pub mod laws;
 mod new_bytes;
 mod run;
-#[cfg(test)]
-mod tests;
 mod widths;
 
 pub use new_bytes::{NewBytes, OldBytes};
