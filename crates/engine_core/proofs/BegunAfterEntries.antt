@@ -1,8 +1,8 @@
 -- Entries that keep what seats have begun.
-use Rattle.std.proofs.Common.{◌≡◌, ◌≢◌, ℕ, zero, suc, ◌+◌, ◌*◌, ◌<◌, ◌≤◌, ◌⊎◌, inl, inr, Bool, true, false, cond, not, ◌&&◌, ◌||◌, List, [], ◌∷◌, ◌++◌, length, length-append, map, take, drop, Option, Some, None, refl, sym, ap, ◌∙◌, subst, arith, nat_eq, nat_le, nat_lt, eq-eqb, le_trans}
+use Rattle.std.proofs.Common.{◌≡◌, ℕ, zero, suc, ◌+◌, ◌<◌, ◌≤◌, ◌⊎◌, inl, inr, Bool, true, false, cond, not, ◌&&◌, ◌||◌, List, [], ◌∷◌, ◌++◌, length, length-append, take, drop, Option, Some, None, refl, sym, ap, ◌∙◌, subst, arith, nat_eq, nat_le, nat_lt}
 use Rattle.std.proofs.lemmas.Bool.Decides.{nat_tests}
 use Rattle.std.specs.Prelude.{slice_index_or}
-use Rattle.std.specs.List.{AllByRecursion, list_all}
+use Rattle.std.specs.List.{list_all}
 use Rattle.domains.specs.declared.by.By.{By}
 use Rattle.domains.specs.declared.drive_set.DriveSet.{DriveSet}
 use Rattle.job_rules.specs.Kinds.{phase_at}
@@ -13,7 +13,7 @@ use Rattle.checkpoints.specs.declared.checkpoint.ItemSaved.{ItemSaved}
 use Rattle.checkpoints.specs.declared.checkpoint.ItemSaved.TheVariants.{ToDo, Out, Whole, Lost, Short}
 use Rattle.engine_history.specs.Begun.{touches}
 use Rattle.engine_history.specs.Items.{at_item, come_to, ended, given_back, handed_out, has_ended, is_out, is_to_do, items_from}
-use Rattle.engine_history.specs.Jobs.{Field, after_event, at_job, find_job, is_job, is_started, new_job, ordered, with_items}
+use Rattle.engine_history.specs.Jobs.{after_event, at_job, find_job, is_job, is_started, new_job, ordered, with_items}
 use Rattle.engine_history.specs.Steps.{IsRun, due, due_of, end_of_phase, is_item_out, out_among, out_of}
 use Rattle.engine_history.specs.declared.end.End.{End}
 use Rattle.engine_history.specs.declared.entry.EngineEntry.{EngineEntry}
@@ -24,8 +24,8 @@ use Rattle.engine_history.specs.declared.entry.OrderEffect.{OrderEffect}
 use Rattle.engine_history.specs.declared.entry.OrderEffect.TheVariants as effect
 use Rattle.engine_history.specs.declared.job.JobState.{JobState}
 use Rattle.job_log.specs.Changes.{changed}
-use Rattle.job_log.specs.Jobs.{AreApart, one_later, place_of}
-use Rattle.job_log.specs.JobLog.{JobLogView, jobs_of, log_of, note_of}
+use Rattle.job_log.specs.Jobs.{one_later, place_of}
+use Rattle.job_log.specs.JobLog.{JobLogView, jobs_of, log_of}
 use Rattle.job_log.specs.JobLog.{with_entry as log_with}
 use Rattle.job_log.proofs.EntriesOfJobs.{changed-job}
 use Rattle.job_log.proofs.JobPlaces.{length-at_job, number_is}
@@ -34,7 +34,7 @@ use Rattle.engine_core.specs.BegunItems.{AreBegun, begun_at, begun_of, place_in}
 use Rattle.engine_core.specs.EngineView.{due_events, log_with_all, then_due}
 use Rattle.engine_core.specs.declared.begun.Begun.{Begun}
 use Rattle.engine_core.proofs.BegunLemmas.{KeepsBegun, Places, begun-entry}
-use Rattle.engine_core.proofs.DueEntries.{IsDueOf, due_is, due_names, due_of_one, found_job, jobs_of-entry}
+use Rattle.engine_core.proofs.DueEntries.{due_is, due_names, due_of_one, found_job, jobs_of-entry}
 use Rattle.engine_core.proofs.OutItems.{none_out, out-come_to, out-handed_out, out-items_from, out-last, out-ordered, out-other, stays_out}
 
 -- ---- places

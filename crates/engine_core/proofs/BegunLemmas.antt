@@ -1,5 +1,5 @@
 -- Who has begun which item, as the log grows.
-use Rattle.std.proofs.Common.{◌≡◌, ◌≢◌, ℕ, zero, suc, ◌+◌, ◌*◌, ◌<◌, ◌≤◌, ◌⊎◌, inl, inr, Bool, true, false, cond, List, [], ◌∷◌, ◌++◌, length, length-append, map, drop, Option, Some, None, refl, sym, ap, ◌∙◌, subst, arith, le_trans}
+use Rattle.std.proofs.Common.{◌≡◌, ℕ, zero, suc, ◌<◌, ◌≤◌, ◌⊎◌, inl, inr, true, List, [], ◌∷◌, ◌++◌, length, length-append, drop, Option, Some, None, refl, sym, ap, ◌∙◌, subst, arith, le_trans}
 use Rattle.std.proofs.lemmas.List.{get_or-set_other, get_or-set_same, drop-append-le}
 use Rattle.std.proofs.lemmas.Bool.{cases_eq}
 use Rattle.std.proofs.Math.ListN.{drop_of_length-le}
@@ -7,20 +7,18 @@ use Rattle.std.proofs.Math.Seq.{map-set_same}
 use Rattle.std.proofs.lemmas.List.{length-set}
 use Rattle.std.specs.Prelude.{slice_index_or, slice_set}
 use Rattle.std.specs.List.{AllByRecursion}
-use Rattle.domains.specs.declared.by.By.{By}
 use Rattle.job_rules.specs.declared.job.JobId.{JobId}
 use Rattle.turn_cell.specs.declared.chronicle.Note.{Note}
 use Rattle.engine_history.specs.Begun.{IsBegun, entries_of, touches}
 use Rattle.engine_history.specs.Jobs.{Field, jobs_after}
 use Rattle.engine_history.specs.Steps.{is_item_out}
 use Rattle.engine_history.specs.declared.entry.EngineEntry.{EngineEntry}
-use Rattle.engine_history.specs.declared.entry.EngineEvent.{EngineEvent}
 use Rattle.engine_history.specs.declared.job.JobState.{JobState}
 use Rattle.job_log.specs.Jobs.{place_of}
 use Rattle.job_log.specs.JobLog.{JobLogView, jobs_of, note_of}
 use Rattle.job_log.specs.JobLog.{with_entry as log_with}
 use Rattle.job_log.proofs.JobPlaces.{number_is, placed}
-use Rattle.engine_core.specs.BegunItems.{AreBegun, count_for, place_in, set_at, tally_of}
+use Rattle.engine_core.specs.BegunItems.{AreBegun, count_for, place_in, tally_of}
 use Rattle.engine_core.specs.declared.begun.Begun.{Begun}
 
 abbrev pub Places : Type 0

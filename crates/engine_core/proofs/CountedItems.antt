@@ -1,18 +1,16 @@
 -- The items of a job are as many as its phase has, after any log.
-use Rattle.std.proofs.Common.{◌≡◌, ℕ, zero, suc, ◌+◌, ◌*◌, ◌≤◌, Bool, true, false, cond, List, [], ◌∷◌, ◌++◌, length, Option, Some, None, refl, sym, ap, ◌∙◌, subst, arith, lit≤}
+use Rattle.std.proofs.Common.{◌≡◌, ℕ, zero, suc, ◌≤◌, true, false, cond, List, [], ◌∷◌, ◌++◌, length, Option, Some, None, refl, sym, ap, ◌∙◌, subst, arith}
 use Rattle.std.specs.List.{AllByRecursion}
 use Rattle.domains.specs.declared.drive_set.DriveSet.{DriveSet}
 use Rattle.checkpoints.specs.Saved.{drives_of}
-use Rattle.checkpoints.specs.declared.checkpoint.ItemSaved.{ItemSaved}
-use Rattle.checkpoints.specs.declared.checkpoint.ItemSaved.TheVariants.{ToDo}
 use Rattle.job_rules.specs.Kinds.{phase_at}
 use Rattle.job_rules.specs.Phases.{items_of}
 use Rattle.job_rules.specs.declared.job.JobId.{JobId}
 use Rattle.job_rules.specs.declared.phase.Items.{Items}
 use Rattle.job_rules.specs.declared.phase.Items.TheVariants.{Files, BarredDrives, Drives}
 use Rattle.job_rules.specs.declared.phase.Phase.{Phase}
-use Rattle.engine_history.specs.Items.{come_to, ended, given_back, handed_out, items_from, new_items}
-use Rattle.engine_history.specs.Jobs.{Field, after_event, at_job, count_of, is_job, is_started, items_in, jobs_after, jobs_from, new_job, ordered, with_items}
+use Rattle.engine_history.specs.Items.{come_to, ended, given_back, handed_out, new_items}
+use Rattle.engine_history.specs.Jobs.{Field, after_event, at_job, count_of, is_job, is_started, items_in, jobs_after, jobs_from, new_job, ordered}
 use Rattle.engine_history.specs.declared.entry.EngineEntry.{EngineEntry}
 use Rattle.engine_history.specs.declared.entry.EngineEvent.{EngineEvent}
 use Rattle.engine_history.specs.declared.entry.EngineEvent.TheVariants as event

@@ -1,7 +1,7 @@
 -- The entries that follow at once.
-use Rattle.std.proofs.Common.{◌≡◌, ◌≢◌, ℕ, zero, suc, ◌+◌, ◌<◌, ◌≤◌, Bool, true, false, cond, not, ◌||◌, List, [], ◌∷◌, ◌++◌, length, map, Option, Some, None, refl, sym, ap, ◌∙◌, subst, arith, eq-eqb, nat_eq}
+use Rattle.std.proofs.Common.{◌≡◌, ◌≢◌, ℕ, zero, suc, ◌<◌, ◌≤◌, Bool, true, false, cond, List, [], ◌∷◌, ◌++◌, length, Option, Some, None, refl, sym, ap, ◌∙◌, subst, arith, eq-eqb, nat_eq}
 use Rattle.std.specs.Prelude.{IfSome}
-use Rattle.std.specs.List.{AllByRecursion, list_all}
+use Rattle.std.specs.List.{AllByRecursion}
 use Rattle.domains.specs.declared.by.By.{By}
 use Rattle.job_rules.specs.Kinds.{phase_at, phase_in, phases_of}
 use Rattle.job_rules.specs.declared.job.JobId.{JobId}
@@ -10,10 +10,9 @@ use Rattle.turn_cell.specs.Notes.{entries_by}
 use Rattle.turn_cell.specs.declared.chronicle.Note.{Note}
 use Rattle.engine_history.specs.Begun.{entries_of}
 use Rattle.engine_history.specs.Jobs.{Field, after_event, at_job, find_job, is_job, jobs_after}
-use Rattle.engine_history.specs.Steps.{IsEngineStep, IsFreeStep, IsStepWhere, MadeBy, World, due, due_of, end_of_phase, or_due}
+use Rattle.engine_history.specs.Steps.{IsFreeStep, IsStepWhere, MadeBy, World, due, due_of, end_of_phase, or_due}
 use Rattle.engine_history.specs.declared.entry.EngineEntry.{EngineEntry}
 use Rattle.engine_history.specs.declared.entry.EngineEvent.{EngineEvent}
-use Rattle.engine_history.specs.declared.entry.EngineEvent.TheVariants as event
 use Rattle.engine_history.specs.declared.job.JobState.{JobState}
 use Rattle.engine_history.proofs.LongerLogs.{jobs_after-push}
 use Rattle.job_log.specs.Changes.{changed}
@@ -22,10 +21,9 @@ use Rattle.job_log.specs.JobLog.{Fits, JobLogView, jobs_of, log_of, note_of}
 use Rattle.job_log.specs.JobLog.{with_entry as log_with}
 use Rattle.job_log.proofs.EntriesOfJobs.{changed-job}
 use Rattle.job_log.proofs.JobPlaces.{all-at_job, apart-at_job, none_behind, not_job, number_is}
-use Rattle.job_log.proofs.JobsOfLogs.{started_after}
 use Rattle.engine_core.specs.EngineView.{AreLegalNow, EngineView, IsLegalNow, due_events, jobs_now, log_with_all, then_due, with_entry}
 use Rattle.engine_core.specs.Items.{IsDueLess, IsDueWithin}
-use Rattle.engine_core.proofs.DueJobs.{AreHeld, Closes, ClosesBy, after_due, at_most_three, due-held, held-due, held-none, is_held, none-held}
+use Rattle.engine_core.proofs.DueJobs.{AreHeld, Closes, ClosesBy, after_due, at_most_three, due-held, held-due, is_held, none-held}
 
 -- ---- one job that something may be due of
 

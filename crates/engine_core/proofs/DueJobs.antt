@@ -1,10 +1,8 @@
 -- What is due, where one job changes.
-use Rattle.std.proofs.Common.{◌≡◌, ◌≢◌, ℕ, zero, suc, ◌+◌, ◌*◌, ◌<◌, ◌≤◌, ◌⊎◌, inl, inr, Bool, true, false, cond, not, ◌&&◌, ◌||◌, List, [], ◌∷◌, ◌++◌, length, replicate, Option, Some, None, refl, sym, ap, ◌∙◌, subst, arith, eq-eqb, lit≤}
-use Rattle.std.specs.Prelude.{IfSome}
+use Rattle.std.proofs.Common.{◌≡◌, ℕ, zero, suc, ◌+◌, ◌*◌, ◌≤◌, ◌⊎◌, inl, inr, Bool, true, false, cond, not, ◌&&◌, ◌||◌, List, [], ◌∷◌, ◌++◌, length, Option, Some, None, refl, sym, ap, ◌∙◌, subst, arith, lit≤}
 use Rattle.std.specs.List.{AllByRecursion, list_all}
 use Rattle.domains.specs.declared.drive_set.DriveSet.{DriveSet}
 use Rattle.job_rules.specs.Kinds.{phase_at, phase_in, phases_of}
-use Rattle.job_rules.specs.Phases.{items_of}
 use Rattle.job_rules.specs.declared.job.JobId.{JobId}
 use Rattle.job_rules.specs.declared.kind.JobKind.{JobKind}
 use Rattle.job_rules.specs.declared.kind.JobKind.TheVariants.{FlexProtect, AutoBalance, SetProtectPlus, Collect, MultiScan, Upgrade, IntegrityScan, MediaScan, SmartPools, SyncCopy}
@@ -12,19 +10,15 @@ use Rattle.job_rules.specs.declared.phase.Phase.{Phase}
 use Rattle.checkpoints.specs.declared.checkpoint.ItemSaved.{ItemSaved}
 use Rattle.checkpoints.specs.declared.checkpoint.ItemSaved.TheVariants.{ToDo, Out, Whole, Lost, Short}
 use Rattle.engine_history.specs.Items.{come_to, given_back, handed_out, has_ended, items_from, new_items}
-use Rattle.engine_history.specs.Jobs.{Field, after_event, at_job, count_of, find_job, in_next_phase, is_job, items_in, new_job, ordered, with_items}
+use Rattle.engine_history.specs.Jobs.{Field, at_job, in_next_phase, is_job, items_in, new_job, ordered, with_items}
 use Rattle.engine_history.specs.Steps.{due, due_of, end_of_phase, or_due}
 use Rattle.engine_history.specs.declared.entry.EngineEvent.{EngineEvent}
-use Rattle.engine_history.specs.declared.entry.EngineEvent.TheVariants as event
-use Rattle.engine_history.specs.declared.entry.Finished.{Finished}
 use Rattle.engine_history.specs.declared.entry.JobOrder.{JobOrder}
 use Rattle.engine_history.specs.declared.entry.JobOrder.TheVariants.{Pause, Resume, Cancel}
 use Rattle.engine_history.specs.declared.job.JobState.{JobState}
-use Rattle.engine_history.proofs.KeptByEntries.{IsAmong, among_all}
 use Rattle.job_log.specs.Changes.{changed}
-use Rattle.job_log.specs.Jobs.{AreApart, IsField}
-use Rattle.job_log.specs.JobLog.{Fits}
-use Rattle.job_log.proofs.JobPlaces.{all-at_job, not_job}
+use Rattle.job_log.specs.Jobs.{IsField}
+use Rattle.job_log.proofs.JobPlaces.{all-at_job}
 
 -- nothing is due of the job: it is at its end, or an item of its phase has not ended
 abbrev pub is_held : JobState → Bool

@@ -1,16 +1,13 @@
 -- What every engine keeps, with one more entry.
-use Rattle.std.proofs.Common.{◌≡◌, ◌≢◌, ℕ, zero, suc, ◌+◌, ◌-◌, ◌*◌, ◌<◌, ◌≤◌, Bool, true, false, cond, List, [], ◌∷◌, ◌++◌, length, Option, Some, None, Result, Ok, Err, refl, sym, ap, ◌∙◌, subst, arith, nat_eq, eq-eqb}
-use Rattle.std.specs.Prelude.{OnErr, OnOk, is_some, slice_index_or, slice_set}
-use Rattle.std.specs.List.{AllByRecursion}
-use Rattle.std.proofs.lemmas.List.{get_or-set_same}
+use Rattle.std.proofs.Common.{◌≡◌, ℕ, zero, suc, Bool, true, false, cond, List, [], ◌∷◌, ◌++◌, length, Option, Some, None, Result, Ok, Err, refl, sym, ap, ◌∙◌, subst, nat_eq}
+use Rattle.std.specs.Prelude.{OnErr, OnOk, slice_index_or, slice_set}
 use Rattle.domains.specs.declared.by.By.{By}
 use Rattle.domains.specs.declared.drive_set.DriveSet.{DriveSet}
 use Rattle.job_rules.specs.declared.job.JobId.{JobId}
 use Rattle.job_rules.specs.declared.kind.JobKind.{JobKind}
-use Rattle.job_rules.specs.Rank.{AreApart, IsApart}
 use Rattle.engine_history.specs.Begun.{touches}
-use Rattle.engine_history.specs.Jobs.{Field, after_event, at_job, find_job, is_job, is_started, new_job, ordered, views_of}
-use Rattle.engine_history.specs.Steps.{IsRun, due, is_item_out, out_among, out_of}
+use Rattle.engine_history.specs.Jobs.{Field, after_event, at_job, find_job, is_started, new_job, ordered}
+use Rattle.engine_history.specs.Steps.{IsRun, due, is_item_out, out_of}
 use Rattle.engine_history.specs.declared.end.End.{End}
 use Rattle.engine_history.specs.declared.entry.EngineEntry.{EngineEntry}
 use Rattle.engine_history.specs.declared.entry.EngineEvent.{EngineEvent}
@@ -21,16 +18,15 @@ use Rattle.engine_history.specs.declared.entry.OrderEffect.TheVariants as effect
 use Rattle.engine_history.specs.declared.job.JobState.{JobState}
 use Rattle.job_log.specs.Changes.{changed}
 use Rattle.job_log.specs.Jobs.{IsField, place_of}
-use Rattle.job_log.specs.JobLog.{JobLogView, jobs_of, log_of, note_of}
+use Rattle.job_log.specs.JobLog.{JobLogView, jobs_of, log_of}
 use Rattle.job_log.specs.JobLog.{with_entry as log_with}
 use Rattle.job_log.proofs.EntriesOfJobs.{changed-job}
 use Rattle.job_log.proofs.JobsOfLogs.{started_after}
 use Rattle.job_log.proofs.JobPlaces.{apart-at_job}
-use Rattle.engine_core.specs.BegunItems.{AreBegun, begun_at, begun_of, place_in}
-use Rattle.engine_core.specs.EngineView.{EngineView, IsEngine, NoOtherBegan, begun_by, due_events, jobs_now, log_with_all, then_due}
+use Rattle.engine_core.specs.BegunItems.{begun_at, begun_of, place_in}
+use Rattle.engine_core.specs.EngineView.{EngineView, IsEngine, NoOtherBegan, due_events, log_with_all, then_due}
 use Rattle.engine_core.specs.Items.{IsDueLess, IsDueWithin, worked_event}
-use Rattle.engine_core.specs.declared.begun.Begun.{Begun}
-use Rattle.engine_core.proofs.BegunAfterEntries.{IsBegunLog, begun_all_due, keeps-done, keeps-given_back, keeps-hand_out, keeps-order, keeps-progress, keeps-same, keeps-start}
+use Rattle.engine_core.proofs.BegunAfterEntries.{IsBegunLog, keeps-done, keeps-given_back, keeps-hand_out, keeps-order, keeps-progress, keeps-same, keeps-start}
 use Rattle.engine_core.proofs.BegunLemmas.{KeepsBegun, Places, begun-entry, begun-none}
 use Rattle.engine_core.proofs.DueEntries.{due_within, found-at_job, jobs_of-entry, map_found, others_held}
 use Rattle.engine_core.proofs.DueJobs.{closes_in_three, due-held, held-at_job, held-come_to, held-due, held-given_back, held-hand_out, held-last, held-new_job, held-ordered}

@@ -1,14 +1,14 @@
 -- What a turn makes of an engine, and what a seat that has begun an item finds in its next turn.
-use Rattle.std.proofs.Common.{◌≡◌, ◌≢◌, ℕ, zero, suc, ◌+◌, ◌<◌, ◌≤◌, Bool, true, false, cond, List, [], ◌∷◌, ◌++◌, length, length-append, map, Option, Some, None, refl, sym, ap, ◌∙◌, subst, arith, nat_eq, eq-eqb}
+use Rattle.std.proofs.Common.{◌≡◌, ◌≢◌, ℕ, zero, suc, ◌+◌, true, false, cond, List, [], ◌∷◌, ◌++◌, length, length-append, map, Option, Some, None, refl, sym, ap, ◌∙◌, subst, arith, nat_eq, eq-eqb}
 use Rattle.std.proofs.lemmas.Bool.Decides.{nat_tests}
-use Rattle.std.specs.Prelude.{slice_index_or, slice_set}
+use Rattle.std.specs.Prelude.{slice_index_or}
 use Rattle.domains.specs.Shape.{Shape}
 use Rattle.domains.specs.declared.by.By.{By}
 use Rattle.job_rules.specs.declared.job.JobId.{JobId}
 use Rattle.turn_cell.specs.Notes.{notes_by}
 use Rattle.turn_cell.specs.declared.chronicle.Note.{Note}
 use Rattle.turn_cell.proofs.HistoryLemmas.{Changed-none, Changed-one, Changed-trans}
-use Rattle.engine_history.specs.Begun.{IsBegun, NoneTouches, entries_of}
+use Rattle.engine_history.specs.Begun.{IsBegun, entries_of}
 use Rattle.engine_history.specs.Jobs.{Field, after_event, at_job, is_job, is_started, jobs_after, jobs_from, new_job}
 use Rattle.engine_history.specs.declared.entry.EngineEntry.{EngineEntry}
 use Rattle.engine_history.specs.declared.entry.EngineEvent.{EngineEvent}
@@ -18,13 +18,13 @@ use Rattle.engine_history.specs.declared.job.JobState.{JobState}
 use Rattle.engine_history.proofs.BegunItems.{none_touches}
 use Rattle.job_log.specs.Changes.{changed}
 use Rattle.job_log.specs.Jobs.{one_later, place_of}
-use Rattle.job_log.specs.JobLog.{JobLogView, jobs_of, note_of}
+use Rattle.job_log.specs.JobLog.{note_of}
 use Rattle.job_log.proofs.EntriesOfJobs.{changed-job}
 use Rattle.engine_core.specs.BegunItems.{begun_at, count_for, place_in, set_at, tally_of}
 use Rattle.engine_core.specs.EngineTurns.{ChangesEngine, FollowsEngine, HasBegun, IsUntouched}
-use Rattle.engine_core.specs.EngineView.{EngineView, IsEngine, NoOtherBegan, begun_by, jobs_now, log_with_all, with_begun, with_entries, with_entry}
+use Rattle.engine_core.specs.EngineView.{EngineView, IsEngine, NoOtherBegan, begun_by, jobs_now, with_begun, with_entries, with_entry}
 use Rattle.engine_core.specs.Items.{after_begin}
-use Rattle.engine_core.specs.Tasks.{unless_begun, work_in, work_of}
+use Rattle.engine_core.specs.Tasks.{unless_begun, work_of}
 use Rattle.engine_core.specs.declared.begun.Begun.{Begun}
 use Rattle.engine_core.specs.declared.work.Task.{Task}
 use Rattle.engine_core.specs.declared.work.Work.{Work}

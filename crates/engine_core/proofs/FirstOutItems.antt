@@ -13,9 +13,8 @@ use Rattle.engine_history.specs.declared.job.JobState.{JobState}
 use Rattle.engine_history.proofs.RunningJobs.{any-count}
 use Rattle.job_log.specs.Jobs.{AreApart}
 use Rattle.job_log.proofs.JobPlaces.{not_job}
-use Rattle.engine_core.specs.Outs.{IsFirst, IsFirstOut, first_out_of, is_lower, job_found, lowest_out, out_in, out_of_work}
-use Rattle.engine_core.specs.Tasks.{next_among, next_of, work_from, work_in}
-use Rattle.engine_core.specs.declared.outs.OutItem.{OutItem}
+use Rattle.engine_core.specs.Outs.{IsFirstOut, first_out_of, is_lower, job_found, lowest_out, out_in, out_of_work}
+use Rattle.engine_core.specs.Tasks.{next_among, work_from, work_in}
 use Rattle.engine_core.specs.declared.work.Work.{Work}
 use Rattle.engine_core.proofs.DueEntries.{found_job}
 

@@ -1,6 +1,6 @@
 -- The first in rank of those that are served.
 use Rattle.std.proofs.Common.{◌≡◌, Bool, true, false, cond, Option, Some, None, refl, ap, sym, ◌∙◌}
-use Rattle.job_rules.specs.Rank.{earlier, rank_before}
+use Rattle.job_rules.specs.Rank.{earlier}
 use Rattle.job_rules.specs.declared.rank.JobView.{JobView}
 use Rattle.engine_core.specs.Tasks.{is_sooner}
 

@@ -1,16 +1,15 @@
 -- Items that stay out.
-use Rattle.std.proofs.Common.{◌≡◌, ◌≢◌, ℕ, zero, suc, ◌+◌, ◌<◌, ◌≤◌, ◌⊎◌, inl, inr, Bool, true, false, cond, not, ◌&&◌, ◌||◌, List, [], ◌∷◌, ◌++◌, length, map, Option, Some, None, refl, sym, ap, ◌∙◌, subst, arith, nat_eq, eq-eqb}
-use Rattle.std.specs.List.{AllByRecursion, list_all}
+use Rattle.std.proofs.Common.{◌≡◌, ◌≢◌, ℕ, zero, suc, ◌<◌, Bool, true, false, cond, ◌&&◌, List, [], ◌∷◌, ◌++◌, length, map, Option, Some, None, refl, ap, ◌∙◌, arith, nat_eq}
+use Rattle.std.specs.List.{list_all}
 use Rattle.job_rules.specs.declared.job.JobId.{JobId}
 use Rattle.checkpoints.specs.declared.checkpoint.ItemSaved.{ItemSaved}
 use Rattle.checkpoints.specs.declared.checkpoint.ItemSaved.TheVariants.{ToDo, Out, Whole, Lost, Short}
-use Rattle.engine_history.specs.Items.{come_to, handed_out, has_ended, is_out, is_to_do, items_from}
+use Rattle.engine_history.specs.Items.{come_to, handed_out, has_ended, is_out, items_from}
 use Rattle.engine_history.specs.Jobs.{at_job, find_job, is_job, ordered}
 use Rattle.engine_history.specs.Steps.{is_item_out, out_among, out_of}
 use Rattle.engine_history.specs.declared.entry.JobOrder.{JobOrder}
 use Rattle.engine_history.specs.declared.entry.JobOrder.TheVariants.{Pause, Resume, Cancel}
 use Rattle.engine_history.specs.declared.job.JobState.{JobState}
-use Rattle.job_log.proofs.JobPlaces.{number_is}
 
 -- ---- items
 

@@ -1,11 +1,11 @@
 -- The jobs of an engine can be spelled.
-use Rattle.std.proofs.Common.{◌≡◌, ◌≢◌, ℕ, zero, suc, ◌+◌, ◌<◌, ◌≤◌, ◌⊎◌, inl, inr, Bool, true, false, cond, not, ◌&&◌, ◌||◌, List, [], ◌∷◌, ◌++◌, length, Option, Some, None, refl, sym, ap, ◌∙◌, subst, arith, nat_lt}
+use Rattle.std.proofs.Common.{◌≡◌, ◌≢◌, ℕ, suc, ◌+◌, ◌<◌, ◌≤◌, inl, inr, Bool, true, false, cond, not, ◌&&◌, ◌||◌, List, [], ◌∷◌, length, Option, Some, None, refl, sym, ap, ◌∙◌, subst, arith, nat_lt}
 use Rattle.std.proofs.lemmas.Bool.{cases_eq}
 use Rattle.std.proofs.lemmas.Bool.Decides.{nat_tests}
 use Rattle.std.proofs.lemmas.List.{nil_from_length}
 use Rattle.std.specs.Prelude.{IsSome}
 use Rattle.std.specs.List.{AllByRecursion, list_all}
-use Rattle.checkpoints.specs.Saved.{AreJobs, IsCheckpoint, IsJob, drives_of}
+use Rattle.checkpoints.specs.Saved.{AreJobs, IsCheckpoint, IsJob}
 use Rattle.checkpoints.specs.declared.checkpoint.JobSaved.{JobSaved}
 use Rattle.checkpoints.specs.declared.checkpoint.ItemSaved.{ItemSaved}
 use Rattle.job_rules.specs.Kinds.{phase_at}

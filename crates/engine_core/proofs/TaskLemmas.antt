@@ -1,12 +1,12 @@
 -- Items to do that stand in a row.
-use Rattle.std.proofs.Common.{◌≡◌, ℕ, zero, suc, ◌+◌, ◌-◌, ◌<◌, ◌≤◌, Bool, true, false, cond, not, ◌&&◌, ◌||◌, List, [], ◌∷◌, length, take, drop, Option, Some, None, refl, sym, ap, ◌∙◌, subst, arith}
+use Rattle.std.proofs.Common.{◌≡◌, ℕ, zero, suc, ◌+◌, ◌-◌, ◌<◌, ◌≤◌, true, false, cond, not, ◌&&◌, ◌||◌, List, [], ◌∷◌, length, take, drop, refl, sym, ap, ◌∙◌, subst, arith}
 use Rattle.std.specs.Prelude.{slice_index_or}
 use Rattle.std.specs.List.{list_all, list_any, position_or_len}
 use Rattle.checkpoints.specs.declared.checkpoint.ItemSaved.{ItemSaved}
 use Rattle.engine_history.specs.Items.{is_to_do}
 use Rattle.engine_history.specs.Steps.{IsRun}
 use Rattle.engine_history.specs.declared.job.JobState.{JobState}
-use Rattle.engine_core.specs.Tasks.{run_of, task_in}
+use Rattle.engine_core.specs.Tasks.{run_of}
 
 -- `count` items at the front are to do, and these stand behind them
 abbrev pub RunsOn : ℕ → ℕ → List ItemSaved → List ItemSaved → Type 0

@@ -1,5 +1,5 @@
 -- What a turn of a seat may make of an engine, and what a seat has begun.
-use Rattle.std.specs.Prelude.{◌≡◌, ℕ, ◌<◌, ◌≤◌, List, ◌++◌, length, Option, Some}
+use Rattle.std.specs.Prelude.{◌≡◌, ℕ, ◌<◌, ◌≤◌, List, ◌++◌, length, Some}
 use Rattle.domains.specs.Shape.{Shape}
 use Rattle.turn_cell.specs.Histories.{Changed, Follows}
 use Rattle.turn_cell.specs.declared.chronicle.Note.{Note}

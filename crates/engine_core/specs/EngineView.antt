@@ -1,14 +1,11 @@
 -- What contracts see of an engine.
-use Rattle.std.specs.Prelude.{◌≡◌, ℕ, zero, suc, ◌+◌, ◌<◌, ◌≤◌, List, [], ◌∷◌, ◌++◌, length, Option, Some, None}
+use Rattle.std.specs.Prelude.{◌≡◌, ℕ, zero, suc, List, [], ◌∷◌, Option, Some, None}
 use Rattle.domains.specs.Shape.{Shape}
 use Rattle.domains.specs.declared.by.By.{By}
 use Rattle.job_rules.specs.declared.job.JobId.{JobId}
-use Rattle.job_rules.specs.declared.rank.JobView.{JobView}
 use Rattle.turn_cell.specs.Notes.{entries_by}
-use Rattle.turn_cell.specs.declared.chronicle.Note.{Note}
 use Rattle.engine_history.specs.Jobs.{Field, after_event}
 use Rattle.engine_history.specs.Steps.{IsEngineStep, World, due}
-use Rattle.engine_history.specs.declared.entry.EngineEntry.{EngineEntry}
 use Rattle.engine_history.specs.declared.entry.EngineEvent.{EngineEvent}
 use Rattle.engine_history.specs.declared.job.JobState.{JobState}
 use Rattle.job_log.specs.Jobs.{place_of}

@@ -1,5 +1,5 @@
 -- Hand-outs.
-use Rattle.std.specs.Prelude.{◌≡◌, ℕ, ◌≤◌, Option, Some}
+use Rattle.std.specs.Prelude.{◌≡◌, ℕ, Some}
 use Rattle.job_rules.specs.declared.rank.JobView.{JobView}
 use Rattle.engine_history.specs.Jobs.{find_job}
 use Rattle.engine_history.specs.Steps.{next_job}

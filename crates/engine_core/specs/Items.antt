@@ -1,5 +1,5 @@
 -- Items from `begin` to their end.
-use Rattle.std.specs.Prelude.{◌≡◌, ℕ, zero, suc, ◌<◌, Bool, true, false, ◌&&◌, ◌==◌, if◌then◌else◌, List, length, Option, Some, None}
+use Rattle.std.specs.Prelude.{◌≡◌, ℕ, zero, suc, ◌<◌, Bool, true, false, ◌==◌, if◌then◌else◌, List, length, Option, Some, None}
 use Rattle.domains.specs.declared.by.By.{By}
 use Rattle.job_rules.specs.declared.job.JobId.{JobId}
 use Rattle.turn_cell.specs.Notes.{entries_by}
@@ -11,7 +11,6 @@ use Rattle.engine_history.specs.declared.job.JobState.{JobState}
 use Rattle.job_log.specs.Jobs.{place_of}
 use Rattle.engine_core.specs.BegunItems.{place_in}
 use Rattle.engine_core.specs.EngineView.{EngineView, jobs_now, with_begun}
-use Rattle.engine_core.specs.declared.begun.Begun.{Begun}
 use Rattle.engine_core.specs.declared.items.Go.{Go}
 use Rattle.engine_core.specs.declared.items.Go.TheVariants.{On, Yield}
 use Rattle.engine_core.specs.Tasks.{work_in}

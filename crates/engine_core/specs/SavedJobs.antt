@@ -1,5 +1,5 @@
 -- What a checkpoint says of jobs.
-use Rattle.std.specs.Prelude.{◌≡◌, ℕ, zero, suc, Bool, true, false, ◌||◌, nat_lt, ◌==◌, if◌then◌else◌, List, [], ◌∷◌, length, Option, Some, None, Result, Ok, Err}
+use Rattle.std.specs.Prelude.{◌≡◌, ℕ, suc, ◌||◌, nat_lt, ◌==◌, if◌then◌else◌, List, [], ◌∷◌, length, Option, Some, None, Result, Ok, Err}
 use Rattle.job_rules.specs.declared.job.JobId.{JobId}
 use Rattle.checkpoints.specs.CheckpointFields.{Answers, all_of}
 use Rattle.checkpoints.specs.Saved.{checkpoint_bytes}

@@ -1,5 +1,5 @@
 -- Starts of jobs.
-use Rattle.std.specs.Prelude.{◌≡◌, ℕ, ◌≤◌, Bool, true, false}
+use Rattle.std.specs.Prelude.{◌≡◌, ℕ, ◌≤◌, true}
 use Rattle.domains.specs.Drive.{Drive, IsDrive}
 use Rattle.domains.specs.DriveSet.{has}
 use Rattle.domains.specs.Shape.{Shape, is_of}
@@ -7,7 +7,6 @@ use Rattle.domains.specs.declared.by.By.{By}
 use Rattle.domains.specs.declared.drive_set.DriveSet.{DriveSet}
 use Rattle.job_rules.specs.declared.job.JobId.{JobId}
 use Rattle.job_rules.specs.declared.kind.JobKind.{JobKind}
-use Rattle.job_rules.specs.declared.kind.JobKind.TheVariants as kind
 use Rattle.turn_cell.specs.Notes.{entries_by}
 use Rattle.engine_history.specs.Steps.{IsEngineStep, World, bars_of}
 use Rattle.engine_history.specs.declared.entry.EngineEvent.TheVariants as event

@@ -1,16 +1,13 @@
 -- Tasks and the work of their items.
-use Rattle.std.specs.Prelude.{◌≡◌, ℕ, zero, suc, ◌+◌, ◌≤◌, Bool, true, false, ◌&&◌, ◌==◌, if◌then◌else◌, List, [], ◌∷◌, length, drop, Option, Some, None}
+use Rattle.std.specs.Prelude.{ℕ, zero, suc, Bool, true, ◌==◌, if◌then◌else◌, List, [], ◌∷◌, drop, Option, Some, None}
 use Rattle.std.specs.List.{position_or_len}
 use Rattle.job_rules.specs.Rank.{rank_before}
-use Rattle.job_rules.specs.declared.job.JobId.{JobId}
 use Rattle.job_rules.specs.declared.rank.JobView.{JobView}
 use Rattle.checkpoints.specs.declared.checkpoint.ItemSaved.{ItemSaved}
 use Rattle.checkpoints.specs.declared.checkpoint.ItemSaved.TheVariants.{ToDo, Out, Whole, Lost, Short}
-use Rattle.engine_history.specs.Items.{is_out, is_to_do}
+use Rattle.engine_history.specs.Items.{is_to_do}
 use Rattle.engine_history.specs.Jobs.{find_job}
-use Rattle.engine_history.specs.Steps.{has_to_do, out_among}
 use Rattle.engine_history.specs.declared.job.JobState.{JobState}
-use Rattle.engine_core.specs.BegunItems.{begun_of}
 use Rattle.engine_core.specs.EngineView.{EngineView, begun_by, jobs_now}
 use Rattle.engine_core.specs.declared.begun.Begun.{Begun}
 use Rattle.engine_core.specs.declared.work.Task.{Task}

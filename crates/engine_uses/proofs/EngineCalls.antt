@@ -1,5 +1,5 @@
 -- What calls make of an engine, in the turn of a seat.
-use Rattle.std.proofs.Common.{◌≡◌, ◌∙◌, ℕ, ◌+◌, ◌<◌, List, [], ◌∷◌, length, map, Option, Result, Ok, Err, None, sym, ap, subst, refl}
+use Rattle.std.proofs.Common.{◌≡◌, ℕ, ◌+◌, ◌<◌, List, [], ◌∷◌, length, Option, Result, Ok, Err, None, sym, ap, subst, refl}
 use Rattle.std.proofs.lemmas.List.Elements.{All-cons, All-nil}
 use Rattle.std.specs.Prelude.{IfOk, IsErrAnd, IsErrOf, OnErr, OnOk, ◌↔◌}
 use Rattle.std.specs.List.{AllByRecursion}
@@ -13,7 +13,6 @@ use Rattle.turn_cell.specs.Notes.{AreZeros}
 use Rattle.turn_cell.proofs.HistoryLemmas.{Changed-trans}
 use Rattle.engine_history.specs.Jobs.{after_event}
 use Rattle.engine_history.specs.declared.end.End.{End}
-use Rattle.engine_history.specs.declared.entry.EngineEvent.{EngineEvent}
 use Rattle.engine_history.specs.declared.entry.EngineEvent.TheVariants as event
 use Rattle.job_log.specs.JobLog.{JobLogView}
 use Rattle.job_log.specs.declared.job_log.Grow.{Grow}

@@ -1,20 +1,15 @@
 -- What a seat that has begun an item finds in its next turn.
-use Rattle.std.proofs.Common.{◌≡◌, ℕ, ◌+◌, ◌<◌, ◌≤◌, List, ◌++◌, Option, Some, None, Result, true, length, refl, sym, ap, ◌∙◌, subst}
+use Rattle.std.proofs.Common.{◌≡◌, ℕ, ◌+◌, Option, Some, None, Result, true, sym, ap, ◌∙◌, subst}
 use Rattle.std.specs.Prelude.{IfSome}
 use Rattle.domains.specs.declared.by.By.{By}
 use Rattle.job_rules.specs.declared.job.JobId.{JobId}
 use Rattle.turn_cell.specs.Seats.{SeatView, in_turn, left}
-use Rattle.turn_cell.specs.declared.chronicle.Note.{Note}
-use Rattle.engine_history.specs.Begun.{entries_of}
-use Rattle.engine_history.specs.Jobs.{Field, jobs_after}
 use Rattle.engine_history.specs.declared.end.End.{End}
-use Rattle.engine_history.specs.declared.entry.EngineEntry.{EngineEntry}
 use Rattle.job_log.specs.declared.job_log.Grow.{Grow}
-use Rattle.job_log.specs.Jobs.{place_of}
 use Rattle.engine_history.specs.Steps.{is_item_out}
-use Rattle.engine_core.specs.BegunItems.{AreBegun, begun_at}
+use Rattle.engine_core.specs.BegunItems.{begun_at}
 use Rattle.engine_core.specs.EngineTurns.{ChangesEngine, FollowsEngine, HasBegun, IsUntouched}
-use Rattle.engine_core.specs.EngineView.{EngineView, IsEngine, NoOtherBegan, begun_by, jobs_now}
+use Rattle.engine_core.specs.EngineView.{EngineView, IsEngine, NoOtherBegan, jobs_now}
 use Rattle.engine_core.specs.Items.{after_begin}
 use Rattle.engine_core.specs.Tasks.{work_of}
 use Rattle.engine_core.specs.declared.work.Task.{Task}

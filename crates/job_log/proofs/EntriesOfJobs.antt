@@ -1,5 +1,5 @@
 -- What an entry does to the job that it names.
-use Rattle.std.proofs.Common.{◌≡◌, ℕ, Bool, true, false, cond, List, [], ◌∷◌, length, Option, Some, None, refl, ap, ◌∙◌, ◌≤◌, subst}
+use Rattle.std.proofs.Common.{◌≡◌, ℕ, List, length, Option, Some, None, refl, ap, ◌∙◌, ◌≤◌, subst}
 use Rattle.std.specs.Prelude.{IfSome}
 use Rattle.job_rules.specs.declared.job.JobId.{JobId}
 use Rattle.engine_history.specs.Jobs.{Field, after_event, at_job, find_job, ordered}

@@ -1,16 +1,16 @@
 -- What holds of the jobs that any log leaves.
-use Rattle.std.proofs.Common.{◌≡◌, ◌≢◌, ℕ, zero, suc, ◌+◌, ◌<◌, ◌≤◌, Bool, true, false, cond, ◌||◌, List, [], ◌∷◌, ◌++◌, length, length-append, Option, Some, None, refl, sym, ap, ◌∙◌, subst, arith, eq-eqb}
-use Rattle.std.specs.List.{AllByRecursion, list_any}
+use Rattle.std.proofs.Common.{◌≡◌, ◌≢◌, ℕ, suc, ◌+◌, Bool, true, false, cond, ◌||◌, List, [], ◌∷◌, ◌++◌, length, Option, Some, None, refl, arith, eq-eqb}
+use Rattle.std.specs.List.{AllByRecursion}
 use Rattle.job_rules.specs.declared.job.JobId.{JobId}
-use Rattle.engine_history.specs.Jobs.{Field, after_event, at_job, is_job, is_started, jobs_after, jobs_from, new_job}
+use Rattle.engine_history.specs.Jobs.{Field, after_event, is_job, is_started, jobs_after, jobs_from, new_job}
 use Rattle.engine_history.specs.declared.entry.EngineEntry.{EngineEntry}
 use Rattle.engine_history.specs.declared.entry.EngineEvent.{EngineEvent}
 use Rattle.engine_history.specs.declared.entry.EngineEvent.TheVariants as event
 use Rattle.engine_history.specs.declared.entry.OrderEffect.TheVariants as effect
 use Rattle.engine_history.specs.declared.job.JobState.{JobState}
-use Rattle.job_log.specs.Changes.{changed, job_of}
+use Rattle.job_log.specs.Changes.{changed}
 use Rattle.job_log.specs.Jobs.{AreApart, AreOrderedFrom}
-use Rattle.job_log.proofs.JobPlaces.{apart-at_job, not_job, number_is, ordered-at_job}
+use Rattle.job_log.proofs.JobPlaces.{apart-at_job, ordered-at_job}
 use Rattle.job_log.proofs.EntriesOfJobs.{at_named, changed-job, changed-order}
 
 -- no job stands twice, and each has its place among the starts

@@ -1,7 +1,7 @@
 -- What a log keeps, with one more entry.
 use Rattle.std.proofs.Common.{◌≡◌, ℕ, ◌+◌, ◌<◌, ◌≤◌, List, [], ◌∷◌, ◌++◌, length, length-append, ap, sym, ◌∙◌, arith}
 use Rattle.domains.specs.Shape.{Shape}
-use Rattle.engine_history.specs.Jobs.{Field, after_event, jobs_after}
+use Rattle.engine_history.specs.Jobs.{Field, after_event}
 use Rattle.engine_history.specs.declared.entry.EngineEntry.{EngineEntry}
 use Rattle.engine_history.specs.declared.job.JobState.{JobState}
 use Rattle.engine_history.proofs.LongerLogs.{jobs_after-push}

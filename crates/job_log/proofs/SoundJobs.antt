@@ -1,6 +1,5 @@
 -- Entries that fit keep jobs that can be spelled.
-use Rattle.std.proofs.Common.{◌≡◌, ◌≢◌, ℕ, zero, suc, ◌+◌, ◌*◌, ◌<◌, ◌≤◌, Bool, true, false, cond, List, [], ◌∷◌, ◌++◌, length, length-append, Option, Some, None, refl, sym, ap, ◌∙◌, subst, arith, lit≤}
-use Rattle.std.specs.Prelude.{IfSome}
+use Rattle.std.proofs.Common.{◌≡◌, ℕ, zero, suc, ◌+◌, ◌<◌, ◌≤◌, true, List, [], ◌∷◌, ◌++◌, length, Option, Some, None, arith, lit≤}
 use Rattle.std.specs.List.{AllByRecursion}
 use Rattle.domains.specs.declared.drive_set.DriveSet.{DriveSet}
 use Rattle.checkpoints.specs.Saved.{IsItem, drives_of}
@@ -12,7 +11,7 @@ use Rattle.job_rules.specs.declared.job.JobId.{JobId}
 use Rattle.job_rules.specs.declared.kind.JobKind.{JobKind}
 use Rattle.job_rules.specs.declared.phase.Phase.{Phase}
 use Rattle.engine_history.specs.Items.{at_item, come_to, ended, given_back, handed_out, items_from, new_items}
-use Rattle.engine_history.specs.Jobs.{Field, after_event, at_job, count_of, in_next_phase, is_job, is_started, items_in, new_job, ordered, with_items}
+use Rattle.engine_history.specs.Jobs.{Field, after_event, at_job, count_of, in_next_phase, is_job, items_in, new_job, ordered, with_items}
 use Rattle.engine_history.specs.declared.end.End.{End}
 use Rattle.engine_history.specs.declared.end.End.TheVariants as end
 use Rattle.engine_history.specs.declared.entry.EngineEvent.{EngineEvent}

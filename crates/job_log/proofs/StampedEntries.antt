@@ -1,8 +1,8 @@
 -- The log and its stamps together.
-use Rattle.std.proofs.Common.{◌≡◌, ℕ, suc, List, [], ◌∷◌, ◌++◌, ◌+◌, ◌-◌, ◌<◌, ◌≤◌, min, length, length-append, refl, ap, sym, ◌∙◌, arith, vec_len}
+use Rattle.std.proofs.Common.{◌≡◌, ℕ, suc, List, [], ◌∷◌, ◌++◌, ◌+◌, ◌-◌, ◌<◌, ◌≤◌, min, length, refl, ap, sym, ◌∙◌, arith, vec_len}
 use Rattle.turn_cell.specs.declared.chronicle.Note.{Note}
 use Rattle.engine_history.specs.Begun.{entries_of}
-use Rattle.engine_history.specs.Jobs.{Field, jobs_after}
+use Rattle.engine_history.specs.Jobs.{jobs_after}
 use Rattle.engine_history.specs.declared.entry.EngineEntry.{EngineEntry}
 use Rattle.job_log.specs.JobLog.{JobLogView, jobs_of, log_of, stamped, with_entry}
 use Rattle.job_log.specs.contracts.job_log.JobLog.{the_view}

@@ -1,5 +1,5 @@
 -- What an entry does to the job and to the item that it names.
-use Rattle.std.specs.Prelude.{ℕ, true, List, Option, Some, None}
+use Rattle.std.specs.Prelude.{ℕ, true, Option, Some, None}
 use Rattle.domains.specs.declared.drive_set.DriveSet.{DriveSet}
 use Rattle.job_rules.specs.Phases.{items_of}
 use Rattle.job_rules.specs.declared.job.JobId.{JobId}

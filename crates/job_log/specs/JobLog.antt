@@ -1,5 +1,5 @@
 -- What contracts see of an engine's log.
-use Rattle.std.specs.Prelude.{◌≡◌, ℕ, ◌+◌, ◌-◌, ◌<◌, ◌≤◌, ◌^◌, min, List, [], ◌∷◌, ◌++◌, length, IfSome}
+use Rattle.std.specs.Prelude.{◌≡◌, ℕ, ◌-◌, ◌<◌, ◌≤◌, ◌^◌, min, List, [], ◌∷◌, ◌++◌, length, IfSome}
 use Rattle.domains.specs.Shape.{Shape}
 use Rattle.turn_cell.specs.declared.chronicle.Note.{Note}
 use Rattle.engine_history.specs.Begun.{entries_of}

@@ -1,9 +1,9 @@
 -- The document of a canonical text.
-use Rattle.std.proofs.Common.{codes, ◌≡◌, ℕ, suc, pos, ◌<◌, ◌^◌, Bool, true, false, cond, List, [], ◌∷◌, ◌++◌, length, Some, refl, sym, ap, ◌∙◌, subst, arith, append_assoc, length-append, rules}
+use Rattle.std.proofs.Common.{codes, ◌≡◌, ℕ, suc, pos, ◌<◌, ◌^◌, false, List, [], ◌∷◌, ◌++◌, length, Some, refl, sym, ap, ◌∙◌, subst, arith, append_assoc, length-append, rules}
 use Rattle.std.specs.Fmt.{decimal}
 use Rattle.std.specs.List.{AllByRecursion}
 use Rattle.toml_writer.specs.Text.{key_text}
-use Rattle.toml.specs.Data.{Data, string, integer, array, table, Items, no_items, item, push_item, no_members, member}
+use Rattle.toml.specs.Data.{Data, string, integer, array, Items, no_items, item, push_item, no_members, member}
 use Rattle.toml.specs.Tables.{Node, value, open_array, Nodes, no_nodes, node, close, close_node, Document, Expression, key_value, array_table, define, along_header, along_dots, at_key}
 use Rattle.toml.specs.Parse.{skip_bom, lines, parse_document}
 use Rattle.toml.proofs.Turns.{document_some}

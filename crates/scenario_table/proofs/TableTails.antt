@@ -1,9 +1,9 @@
 -- The keys that may be left out.
 use Rattle.std.proofs.Common.{codes, ◌≡◌, ◌≢◌, ℤ, ℕ, List, Bool, true, false, Result, Ok, Err, refl, sym, ap, ◌∙◌, inl, inr}
 use Rattle.std.specs.Result.{IsErrAnd}
-use Rattle.toml.specs.Data.{Data, integer, array, Members, no_members, member}
+use Rattle.toml.specs.Data.{Data, array, Members, no_members, member}
 use Rattle.scenario_table.specs.Answers.{ParsesTo, ReadsAs}
-use Rattle.scenario_table.specs.Table.{Given, number_member, default_unit, default_workers, items_by, file_data, actor_data, IsTableOf}
+use Rattle.scenario_table.specs.Table.{number_member, default_unit, default_workers, items_by, file_data, actor_data, IsTableOf}
 use Rattle.scenario_table.specs.Parts.{IsNumberOr, IsOutline, IsTail}
 use Rattle.scenario_table.specs.declared.draft.Draft.{Draft}
 use Rattle.scenario_table.specs.declared.reading.TableFault.{TableFault}

@@ -1,8 +1,8 @@
 -- Tables and arrays, from their first entry on.
 use Rattle.std.proofs.Common.{◌≡◌, ℕ, List, [], ◌∷◌, length, Some, String, Global, string_bytes, refl, sym, ap, ◌∙◌, arith}
 use Rattle.std.specs.List.{slice_get}
-use Rattle.toml.specs.Data.{Data, no_items, item, Members, no_members, member}
-use Rattle.toml.specs.View.{view, items_view, members_view}
+use Rattle.toml.specs.Data.{Data, Members, no_members, member}
+use Rattle.toml.specs.View.{view, members_view}
 use Rattle.toml.specs.declared.value.Value.{Value}
 
 -- a table whose first key is this one

@@ -1,5 +1,5 @@
 -- The definitions on a small table, both ways.
-use Rattle.std.proofs.Common.{codes, ◌≡◌, ◌++◌, ℕ, [], ◌∷◌, List, pos, true, false, Bool, refl}
+use Rattle.std.proofs.Common.{codes, ◌≡◌, [], ◌∷◌, pos, true, false, Bool, refl}
 use Rattle.std.specs.Fmt.{digits}
 use Rattle.toml.specs.Data.{integer, array, no_items, Members, no_members, member}
 use Rattle.scenario_table.specs.Canonical.{table_text, number_line, text_line, file_lines, op_line, actor_lines, Numbers}

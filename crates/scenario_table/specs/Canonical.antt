@@ -5,7 +5,7 @@ use Rattle.std.specs.List.{list_all, AllByRecursion}
 use Rattle.toml.specs.Parse.{parse_document}
 use Rattle.scenario_table.specs.declared.draft.Draft.{Draft}
 use Rattle.scenario_table.specs.declared.draft.FileRow.{FileRow}
-use Rattle.scenario_table.specs.Table.{Given, all_given, table_of}
+use Rattle.scenario_table.specs.Table.{all_given, table_of}
 
 abbrev line_feed : List ℕ
 line_feed = 10 ∷ []

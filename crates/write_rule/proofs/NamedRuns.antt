@@ -1,14 +1,11 @@
 -- The run of a legal write, as the write names it.
-use Rattle.std.proofs.Common.{◌≡◌, ℕ, ◌+◌, ◌-◌, ◌≤◌, min, List, length, take, drop, refl, sym, ap, subst, ◌∙◌, arith}
+use Rattle.std.proofs.Common.{◌≡◌, ℕ, ◌-◌, List, length, drop, sym, ap, subst, ◌∙◌, arith}
 use Rattle.std.proofs.lemmas.List.{length-take, length-drop, length-map}
 use Rattle.domains.specs.declared.group.Group.{Group}
-use Rattle.inode_codec.specs.Inode.{IsInode}
 use Rattle.file_history.specs.Bytes.{bytes_after}
 use Rattle.file_history.specs.Layout.{Layout}
-use Rattle.file_history.specs.Stored.{inode_of}
 use Rattle.file_history.specs.WriteRule.{affected_groups, generations_of}
-use Rattle.file_history.specs.declared.entry.Change.{Change}
-use Rattle.write_rule.specs.Runs.{IsAffectedRun, first_replaced, stop_replaced, run_of}
+use Rattle.write_rule.specs.Runs.{IsAffectedRun, first_replaced, stop_replaced}
 use Rattle.write_rule.specs.SplicedRun.{IsRunOf}
 use Rattle.write_rule.proofs.RunLemmas.{affected_are_runs, writes_replace_runs}
 use Rattle.write_rule.proofs.ChunkCounts.{writes_keep_units}

@@ -1,4 +1,4 @@
-use Rattle.std.proofs.Common.{◌≡◌, ◌≤◌, ◌<◌, ◌+◌, ◌++◌, ℕ, drop, take, length, None, Some, vec_len, vec_capacity}
+use Rattle.std.proofs.Common.{◌≡◌, drop}
 use Rattle.engine_history.specs.Steps.{due}
 use Rattle.engine_core.proofs.items.due.Given as goal
 

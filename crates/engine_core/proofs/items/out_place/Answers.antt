@@ -1,7 +1,6 @@
-use Rattle.std.proofs.Common.{◌≡◌, ◌≢◌, ℕ, suc, ◌+◌, ◌*◌, ◌<◌, ◌≤◌, Bool, true, false, List, [], ◌∷◌, length, drop, Option, Some, None, refl, sym, ap, subst, ◌∙◌, arith, rules}
+use Rattle.std.proofs.Common.{◌≡◌, ℕ, ◌+◌, ◌*◌, ◌<◌, ◌≤◌, length, Some, sym, ap, ◌∙◌, arith, rules}
 use Rattle.engine_history.specs.Jobs.{find_job}
-use Rattle.engine_history.specs.Steps.{is_item_out, out_of}
-use Rattle.job_log.specs.Jobs.{place_of}
+use Rattle.engine_history.specs.Steps.{out_of}
 use Rattle.engine_core.specs.Tasks.{next_among}
 use Rattle.engine_core.proofs.ItemLookups.{is_out_where, not_out}
 use Rattle.engine_core.proofs.OutItems.{out_within}

@@ -1,4 +1,4 @@
-use Rattle.std.proofs.Common.{◌≡◌, ◌≤◌, ◌<◌, ◌+◌, ◌++◌, ℕ, drop, take, length, None, Some, vec_len, vec_capacity}
+use Rattle.std.proofs.Common.{◌≡◌, drop, None}
 use Rattle.engine_core.specs.Outs.{lowest_out}
 use Rattle.engine_core.proofs.outs.lowest_out.Given as goal
 

@@ -1,4 +1,4 @@
-use Rattle.std.proofs.Common.{◌≡◌, ◌≤◌, ◌<◌, ◌+◌, ◌++◌, ℕ, drop, take, length, None, Some, vec_len, vec_capacity}
+use Rattle.std.proofs.Common.{◌≡◌, ◌+◌, drop}
 use Rattle.engine_core.specs.SavedJobs.{before_in}
 use Rattle.engine_core.proofs.saved.before_in.Given as goal
 

@@ -1,4 +1,4 @@
-use Rattle.std.proofs.Common.{◌≡◌, ◌≤◌, ◌<◌, ◌+◌, ◌++◌, ℕ, drop, take, length, [], None, Some, vec_len, vec_capacity}
+use Rattle.std.proofs.Common.{◌≡◌, drop, []}
 use Rattle.engine_core.specs.SavedJobs.{saved_from}
 use Rattle.engine_core.proofs.saved.checkpoint_of.Given as goal
 

@@ -1,4 +1,4 @@
-use Rattle.std.proofs.Common.{◌≡◌, ◌≤◌, ◌<◌, ◌+◌, ◌++◌, ℕ, drop, take, length, None, Some, vec_len, vec_capacity}
+use Rattle.std.proofs.Common.{◌≡◌, ◌≤◌, drop, length}
 use Rattle.job_log.proofs.JobPlaces.{later_by}
 use Rattle.engine_core.specs.SavedJobs.{differs_at}
 use Rattle.engine_core.proofs.saved.differs_at.Given as goal

@@ -1,4 +1,4 @@
-use Rattle.std.proofs.Common.{◌≡◌, ◌≤◌, ◌<◌, ◌+◌, ◌++◌, ℕ, drop, take, length, None, Some, vec_len, vec_capacity}
+use Rattle.std.proofs.Common.{◌≡◌, take}
 use Rattle.engine_core.proofs.saved.saved_of.Given as goal
 
 abbrev pub invariant-loop-item : goal.invariant-loop-item

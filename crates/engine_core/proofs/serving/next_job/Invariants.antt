@@ -1,4 +1,4 @@
-use Rattle.std.proofs.Common.{◌≡◌, ◌≤◌, ◌<◌, ◌+◌, ◌++◌, ℕ, drop, take, length, None, Some, vec_len, vec_capacity}
+use Rattle.std.proofs.Common.{◌≡◌, drop, None}
 use Rattle.engine_history.specs.Steps.{is_served}
 use Rattle.job_rules.proofs.FirstInRank.{earliest}
 use Rattle.engine_core.proofs.serving.next_job.Given as goal

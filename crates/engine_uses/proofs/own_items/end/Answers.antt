@@ -1,4 +1,4 @@
-use Rattle.std.proofs.Common.{rules, ◌≡◌, ◌∙◌, sym, subst}
+use Rattle.std.proofs.Common.{rules, ◌∙◌}
 use Rattle.turn_cell.specs.Seats.{seat_view, taken, turn_seat}
 use Rattle.engine_uses.specs.ItemTurns.{EndsItem}
 use Rattle.engine_uses.proofs.ItemsOverTurns.{EngineTurned, ends_exact, has_left, none_else_found, out_found, turn_within}

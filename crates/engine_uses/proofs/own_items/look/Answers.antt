@@ -1,4 +1,4 @@
-use Rattle.std.proofs.Common.{rules, ◌≡◌, ◌∙◌, refl, sym, subst}
+use Rattle.std.proofs.Common.{rules, ◌∙◌, refl}
 use Rattle.turn_cell.specs.Seats.{seat_view, taken, turn_seat}
 use Rattle.engine_core.specs.EngineTurns.{HasBegun, IsUntouched}
 use Rattle.engine_core.proofs.EngineTurns.{changes_none}

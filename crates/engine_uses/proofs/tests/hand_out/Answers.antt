@@ -1,4 +1,4 @@
-use Rattle.std.proofs.Common.{rules, ◌≡◌, ◌∙◌}
+use Rattle.std.proofs.Common.{◌∙◌}
 use Rattle.turn_cell.specs.Seats.{seat_view, taken, turn_seat}
 use Rattle.engine_uses.proofs.ItemsOverTurns.{turn_within}
 use Rattle.engine_uses.proofs.tests.hand_out.Goals as goal

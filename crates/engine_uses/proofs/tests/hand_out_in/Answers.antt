@@ -1,4 +1,3 @@
-use Rattle.std.proofs.Common.{rules, ◌≡◌, ◌∙◌, refl, sym, subst}
 use Rattle.engine_uses.proofs.EngineCalls.{changes_after_reserve, changes_hand_out, changes_reserve}
 use Rattle.engine_uses.proofs.tests.hand_out_in.Goals as goal
 

@@ -1,4 +1,3 @@
-use Rattle.std.proofs.Common.{rules, ◌≡◌, ◌∙◌, refl, sym, subst}
 use Rattle.engine_uses.proofs.EngineCalls.{changes_after_reserve, changes_reserve, changes_start}
 use Rattle.engine_uses.proofs.tests.start_in.Goals as goal
 

@@ -1,4 +1,4 @@
-use Rattle.std.proofs.Common.{◌≡◌, ℕ, ◌+◌, ◌++◌, length, length-append, ap, sym, ◌∙◌, arith}
+use Rattle.std.proofs.Common.{◌≡◌, ℕ, ◌+◌, length, length-append, ap, ◌∙◌, arith}
 use Rattle.std.specs.List.{filter}
 use Rattle.domains.specs.DriveSet.{has}
 use Rattle.checkpoints.specs.Saved.{all_drives, drives_on, drives_up_to}

@@ -1,6 +1,5 @@
-use Rattle.std.proofs.Common.{◌≡◌, ◌+◌, List, ap, add-one, ◌∙◌, rules}
-use Rattle.checkpoints.specs.declared.checkpoint.ItemSaved.{ItemSaved}
-use Rattle.engine_history.specs.Items.{at_item, handed_out, items_from}
+use Rattle.std.proofs.Common.{◌+◌, add-one, ◌∙◌}
+use Rattle.engine_history.specs.Items.{at_item, handed_out}
 use Rattle.job_log.proofs.ChangedItems.{items_from-next}
 use Rattle.job_log.proofs.item_change.hand_out.Goals as goal
 

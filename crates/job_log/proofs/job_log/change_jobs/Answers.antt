@@ -1,7 +1,6 @@
-use Rattle.std.proofs.Common.{◌≡◌, ◌<◌, ℕ, List, length, Option, Some, None, ap, sym, subst, ◌∙◌, arith}
+use Rattle.std.proofs.Common.{◌≡◌, ◌<◌, length, Some, None, ap, sym, subst, ◌∙◌, arith}
 use Rattle.std.specs.Prelude.{slice_index_or, slice_set}
-use Rattle.job_rules.specs.declared.job.JobId.{JobId}
-use Rattle.engine_history.specs.Jobs.{Field, after_event}
+use Rattle.engine_history.specs.Jobs.{Field}
 use Rattle.engine_history.specs.declared.job.JobState.{JobState}
 use Rattle.job_log.specs.Changes.{changed, job_of}
 use Rattle.job_log.specs.Jobs.{IsRoomFor, place_of}

@@ -1,18 +1,6 @@
-use Rattle.std.proofs.Common.{◌≡◌, ◌≢◌, ℕ, suc, ◌+◌, ◌*◌, ◌<◌, ◌≤◌, Bool, true, false, List, [], ◌∷◌, length, drop, Option, Some, None, refl, sym, ap, subst, ◌∙◌, arith, rules}
-use Rattle.std.specs.Prelude.{slice_set}
-use Rattle.engine_history.specs.Jobs.{after_event, find_job, views_of}
-use Rattle.engine_history.specs.Steps.{due, is_item_out}
-use Rattle.engine_history.specs.declared.entry.EngineEntry.{EngineEntry}
-use Rattle.engine_history.specs.declared.entry.EngineEvent.TheVariants as event
-use Rattle.engine_history.specs.declared.job.JobState.{JobState}
-use Rattle.job_log.specs.Jobs.{place_of}
-use Rattle.job_log.specs.JobLog.{JobLogView, jobs_of, log_of}
-use Rattle.job_log.specs.JobLog.{with_entry as log_with}
+use Rattle.std.proofs.Common.{sym, ap, subst, ◌∙◌}
+use Rattle.job_log.specs.JobLog.{jobs_of, log_of}
 use Rattle.job_log.proofs.JobsOfLogs.{started_after}
-use Rattle.engine_core.specs.BegunItems.{begun_at, place_in, set_at}
-use Rattle.engine_core.specs.EngineView.{AreLegalNow, EngineView, IsEngine, NoOtherBegan, due_events, jobs_now, log_with_all, with_begun, with_entries, with_entry}
-use Rattle.engine_core.specs.Items.{IsDueWithin, IsOutAt, IsWorkAt}
-use Rattle.engine_core.specs.declared.begun.Begun.{Begun}
 use Rattle.checkpoints.specs.Saved.{IsCheckpoint}
 use Rattle.job_log.specs.Jobs.{AreOrderedFrom}
 use Rattle.engine_core.specs.SavedJobs.{checkpoint_of}

@@ -1,18 +1,16 @@
-use Rattle.std.proofs.Common.{◌≡◌, ◌≢◌, ℕ, suc, ◌+◌, ◌*◌, ◌<◌, ◌≤◌, Bool, true, false, List, [], ◌∷◌, length, drop, Option, Some, None, refl, sym, ap, subst, ◌∙◌, arith, rules}
+use Rattle.std.proofs.Common.{◌≡◌, ℕ, true, List, ◌∷◌, Some, None, sym, ap, subst, ◌∙◌}
 use Rattle.std.specs.Prelude.{slice_set}
-use Rattle.engine_history.specs.Jobs.{after_event, find_job, views_of}
+use Rattle.engine_history.specs.Jobs.{after_event}
 use Rattle.engine_history.specs.Steps.{due, is_item_out}
 use Rattle.engine_history.specs.declared.entry.EngineEntry.{EngineEntry}
 use Rattle.engine_history.specs.declared.entry.EngineEvent.TheVariants as event
 use Rattle.engine_history.specs.declared.job.JobState.{JobState}
 use Rattle.job_log.specs.Jobs.{place_of}
-use Rattle.job_log.specs.JobLog.{JobLogView, jobs_of, log_of}
+use Rattle.job_log.specs.JobLog.{JobLogView, jobs_of}
 use Rattle.job_log.specs.JobLog.{with_entry as log_with}
-use Rattle.job_log.proofs.JobsOfLogs.{started_after}
-use Rattle.engine_core.specs.BegunItems.{begun_at, place_in, set_at}
-use Rattle.engine_core.specs.EngineView.{AreLegalNow, EngineView, IsEngine, NoOtherBegan, due_events, jobs_now, log_with_all, with_begun, with_entries, with_entry}
-use Rattle.engine_core.specs.Items.{IsDueWithin, IsOutAt, IsWorkAt}
-use Rattle.engine_core.specs.declared.begun.Begun.{Begun}
+use Rattle.engine_core.specs.BegunItems.{set_at}
+use Rattle.engine_core.specs.EngineView.{AreLegalNow, EngineView, due_events, jobs_now, log_with_all, with_begun, with_entries, with_entry}
+use Rattle.engine_core.specs.Items.{IsDueWithin, IsOutAt}
 use Rattle.engine_core.proofs.BegunAfterEntries.{IsBegunLog, begun_all_due}
 use Rattle.engine_core.proofs.DueEntries.{jobs_of-entry, legal_all_due, legal_free, made_by}
 use Rattle.engine_core.proofs.EngineAfterEntries.{begun_done, done_within}

@@ -1,4 +1,4 @@
-use Rattle.std.proofs.Common.{◌≡◌, ◌∙◌, Option, sym, ap, subst}
+use Rattle.std.proofs.Common.{◌∙◌, Option, sym, ap, subst}
 use Rattle.job_log.specs.JobLog.{jobs_of, log_of}
 use Rattle.job_log.proofs.JobsOfLogs.{started_after}
 use Rattle.engine_core.specs.EngineView.{EngineView, jobs_now}

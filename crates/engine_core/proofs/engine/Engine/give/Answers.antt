@@ -1,4 +1,4 @@
-use Rattle.std.proofs.Common.{◌≡◌, None, sym, ap, subst, ◌∙◌, rules}
+use Rattle.std.proofs.Common.{◌≡◌, None, sym, subst, rules}
 use Rattle.engine_history.specs.Jobs.{find_job}
 use Rattle.engine_history.specs.Steps.{due, effect_of}
 use Rattle.engine_history.specs.declared.entry.EngineEvent.TheVariants as event

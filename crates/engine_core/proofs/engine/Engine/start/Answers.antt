@@ -1,8 +1,7 @@
-use Rattle.std.proofs.Common.{◌≡◌, Bool, false, true, List, sym, ap, subst, ◌∙◌, refl}
-use Rattle.domains.specs.Shape.{Shape, is_of}
+use Rattle.std.proofs.Common.{◌≡◌, false, sym, subst, refl}
 use Rattle.engine_history.specs.Jobs.{is_started}
 use Rattle.engine_history.specs.declared.entry.EngineEvent.TheVariants as event
-use Rattle.job_log.specs.JobLog.{JobLogView, jobs_of}
+use Rattle.job_log.specs.JobLog.{JobLogView}
 use Rattle.engine_core.specs.EngineView.{EngineView, IsEngine, jobs_now}
 use Rattle.engine_core.specs.Starts.{AreBars}
 use Rattle.engine_core.proofs.BarredDrives.{few_barred}

@@ -1,4 +1,4 @@
-use Rattle.std.proofs.Common.{◌≡◌, List, None, sym, ap, subst, ◌∙◌}
+use Rattle.std.proofs.Common.{◌≡◌, None, sym, ap, subst, ◌∙◌}
 use Rattle.engine_history.specs.Steps.{due}
 use Rattle.engine_history.specs.declared.entry.EngineEntry.{EngineEntry}
 use Rattle.engine_history.specs.declared.entry.EngineEvent.{EngineEvent}

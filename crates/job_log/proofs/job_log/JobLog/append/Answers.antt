@@ -1,10 +1,9 @@
-use Rattle.std.proofs.Common.{◌≡◌, ◌∙◌, ℕ, ◌<◌, ◌≤◌, List, [], ◌∷◌, ◌++◌, length, ap, refl, sym, subst, min, vec_len, vec_capacity, arith}
-use Rattle.domains.specs.Shape.{Shape}
-use Rattle.engine_history.specs.Jobs.{Field, after_event, jobs_after}
+use Rattle.std.proofs.Common.{◌≡◌, ◌∙◌, ◌<◌, ◌≤◌, List, [], ◌∷◌, ◌++◌, length, ap, sym, subst, min, vec_len, vec_capacity, arith}
+use Rattle.engine_history.specs.Jobs.{Field}
 use Rattle.engine_history.specs.declared.entry.EngineEntry.{EngineEntry}
 use Rattle.engine_history.specs.declared.job.JobState.{JobState}
 use Rattle.job_log.specs.Jobs.{AreApart, AreSound}
-use Rattle.job_log.specs.JobLog.{Fits, IsKeptLog, JobLogView, jobs_of, stamped, with_entry}
+use Rattle.job_log.specs.JobLog.{Fits, IsKeptLog, JobLogView, stamped, with_entry}
 use Rattle.job_log.specs.contracts.job_log.JobLog.{the_view}
 use Rattle.job_log.specs.declared.entry_stamp.EntryStamp.{EntryStamp}
 use Rattle.job_log.proofs.JobsOfLogs.{started_after}

@@ -1,7 +1,7 @@
-use Rattle.std.proofs.Common.{◌≡◌, ◌≤◌, List, length, ap, sym, subst, ◌∙◌}
+use Rattle.std.proofs.Common.{◌≤◌, List, length, subst, ◌∙◌}
 use Rattle.engine_history.specs.declared.job.JobState.{JobState}
 use Rattle.job_log.specs.Jobs.{AreSound, IsField}
-use Rattle.job_log.specs.JobLog.{JobLogView, jobs_of}
+use Rattle.job_log.specs.JobLog.{JobLogView}
 use Rattle.job_log.proofs.StampedEntries.{jobs_inside}
 use Rattle.job_log.proofs.job_log.JobLog.jobs.Goals as goal
 

@@ -1,4 +1,4 @@
-use Rattle.std.proofs.Common.{◌≡◌, ◌∙◌, ℕ, ◌<◌, ◌≤◌, ◌+◌, Bool, cond, false, List, [], ◌∷◌, ◌++◌, length, length-append, ap, refl, sym, subst, min, vec_len, vec_capacity, arith}
+use Rattle.std.proofs.Common.{◌≡◌, ◌∙◌, ◌<◌, ◌≤◌, Bool, cond, false, List, [], ◌∷◌, ◌++◌, length, length-append, ap, sym, subst, min, vec_len, vec_capacity, arith}
 use Rattle.engine_history.specs.Jobs.{Field, after_event, is_started, new_job}
 use Rattle.engine_history.specs.declared.entry.EngineEntry.{EngineEntry}
 use Rattle.engine_history.specs.declared.entry.EngineEvent.TheVariants.{Start}
