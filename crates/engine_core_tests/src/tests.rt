@@ -2,11 +2,11 @@
 
 ghost use Rattle.std.specs.Prelude.{◌≡◌, ◌≤◌, [], IfOk};
 
+use checkpoints::{BadCheckpoint, CheckpointRule};
+use domains::{By, DriveSet, Shape};
 use engine_core::{
     End, Engine, Go, Grow, Idle, NotActive, NotOut, RestartRefusal, StartRefusal, Task, Told, Work,
 };
-use checkpoints::{BadCheckpoint, CheckpointRule};
-use domains::{By, DriveSet, Shape};
 use job_rules::{JobId, JobKind};
 use std::test::Fail;
 

@@ -7,9 +7,9 @@ ghost use Rattle.inode_codec.specs.Inode.{inode_bytes};
 ghost use Rattle.file_core.specs.Creation.{Took, empty_inode};
 ghost use Rattle.file_core.specs.Examples.{IsNew, first, second, small, SeesAll};
 
-use file_core::{DeletedSlots, FileParts, FileState, Stripe};
 use board::{Grow, View};
 use domains::{By, DriveSet, Level, Shape};
+use file_core::{DeletedSlots, FileParts, FileState, Stripe};
 use flex_io::{Fault, Rack, Slot, SurePiece, SureRack};
 use held_slots::{Held, spend_all};
 use lists::List;

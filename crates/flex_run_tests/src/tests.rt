@@ -3,8 +3,8 @@
 mod devices;
 mod failing_rack;
 
-use flex_run::flex;
 use flex_io::{Gate, OpenGate, Point, Rack, Sink, Source, Steady, SureRack, SureSink, SureSource};
+use flex_run::flex;
 use std::alloc::{AllocError, Global};
 use std::cell::Cell;
 use std::test::Fail;

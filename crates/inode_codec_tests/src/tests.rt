@@ -3,6 +3,7 @@
 ghost use Rattle.std.specs.Prelude.{IfOk};
 ghost use Rattle.inode_codec.specs.Inode.{IsInode};
 
+use domains::{DriveId, Group, Level, Place};
 use inode_codec::InodeRule::{
     Drive, Ends, Format, Generation, Groups, Left, LevelField, M, Mark, N, Node, Size, Slot, Sum,
     UnitField,
@@ -11,7 +12,6 @@ use inode_codec::{
     BadInode, HEAD_LEN, Inode, InodeFault, InodeRule, append_group, append_head, group_len, read,
     write,
 };
-use domains::{DriveId, Group, Level, Place};
 use lists::List;
 use std::alloc::{AllocError, Global};
 use std::test::Fail;

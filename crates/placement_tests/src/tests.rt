@@ -3,7 +3,6 @@
 ghost use Rattle.std.specs.Prelude.{◌≡◌, ◌≤◌};
 ghost use Rattle.fabric.specs.Views.{IsHandOf, fabric_view, number_of};
 
-use placement::{EmptyAt, NoRoom, PlaceRefusal, draw, place};
 use board::View;
 use domains::{By, DriveId, DriveSet, Level, Shape};
 use fabric::{Desk, Fabric, Hand, Parts};
@@ -12,6 +11,7 @@ use flex_io::{
 };
 use held_slots::{Held, spend_all};
 use lists::List;
+use placement::{EmptyAt, NoRoom, PlaceRefusal, draw, place};
 use rs_codes::Units;
 use std::alloc::{AllocError, Global};
 use std::sync::Wait;

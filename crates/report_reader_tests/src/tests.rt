@@ -1,8 +1,8 @@
 //! Lines of reports against docs/FORMATS.md, "Report".
 
-use report_reader::{read_board_entry, read_file_entry};
 use domains::Level;
 use report::write_file_entry;
+use report_reader::{read_board_entry, read_file_entry};
 use std::test::Fail;
 
 /// Whether the line is one of the board.

@@ -2,11 +2,11 @@
 
 ghost use Rattle.std.specs.Prelude.{◌<◌};
 
-use report::{Logs, board_lines, file_lines, print};
 use board_history::{BoardEntry, Effect, Order, State};
 use domains::{By, DriveId, Group, Level, Lost, Place, Shape, TooFew};
 use file_history::{Change, FileEntry, FileEvent, Refused};
 use lists::List;
+use report::{Logs, board_lines, file_lines, print};
 use scenario::{FileDecl, Name, Op, Scenario, Text};
 use std::alloc::{AllocError, Global};
 use std::test::Fail;

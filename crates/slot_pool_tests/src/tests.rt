@@ -7,9 +7,9 @@ mod turns;
 
 use self::race::race;
 use self::slots::pool_of;
-use slot_pool::Pool;
 use flex_io::{Slot, SurePiece};
 use held_slots::{Held, spend_all};
+use slot_pool::Pool;
 use std::alloc::AllocError;
 use std::test::Fail;
 

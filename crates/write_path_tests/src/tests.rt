@@ -3,7 +3,6 @@
 ghost use Rattle.std.specs.Prelude.{◌≡◌, ◌≤◌};
 ghost use Rattle.fabric.specs.Views.{IsHandOf, fabric_view, number_of};
 
-use write_path::{RemoveRefusal, remove};
 use domains::{By, Level, Shape};
 use fabric::{Desk, Fabric, Hand, Parts};
 use file_core::{FileParts, FileState};
@@ -14,6 +13,7 @@ use std::alloc::{AllocError, Global};
 use std::sync::Wait;
 use std::test::Fail;
 use turn_cell::TurnCell;
+use write_path::{RemoveRefusal, remove};
 
 /// What a removal of an absent file answers whose log has this room, and how many entries there are then.
 fn remove_absent<R: Wait>(

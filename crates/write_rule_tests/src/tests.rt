@@ -1,7 +1,7 @@
 //! Writes to small maps.
 
-use write_rule::{NewBytes, OldBytes, ReplacedRun, WriteRange, chunks, replaced_run};
 use std::test::Fail;
+use write_rule::{NewBytes, OldBytes, ReplacedRun, WriteRange, chunks, replaced_run};
 
 #[test]
 fn a_write_replaces_the_groups_that_it_touches(rt: HostRuntime) -> Result<(), Fail> {

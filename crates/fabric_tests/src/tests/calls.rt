@@ -4,9 +4,9 @@ ghost use Rattle.std.specs.Prelude.{◌≡◌, true};
 ghost use Rattle.domains.specs.Shape.{is_of};
 ghost use Rattle.fabric.specs.Views.{IsHandOf, fabric_view, number_of};
 
-use fabric::{Fabric, Hand, Parts};
 use board::View;
 use domains::{DriveId, DriveSet, Shape};
+use fabric::{Fabric, Hand, Parts};
 use flex_io::{SurePiece, SureRack};
 use held_slots::{Empty, spend_all};
 use lists::List;

@@ -1,7 +1,7 @@
 //! A fabric from its beginning to its end.
 
-use fabric::{Fabric, OpenFault, Parts};
 use domains::Shape;
+use fabric::{Fabric, OpenFault, Parts};
 use flex_io::{Fail as FailedCall, MemoryRack, RackCall, RawPlace, Slot, SurePiece, SureRack};
 use held_slots::spend_all;
 use lists::List;

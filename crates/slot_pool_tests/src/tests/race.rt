@@ -6,8 +6,8 @@ ghost use Rattle.turn_cell.specs.Seats.{AreNewSeats, IsIdleOf, cell_view, seat_v
 
 use super::slots::pool_of;
 use super::turns::{draw, put_back};
-use slot_pool::Pool;
 use flex_io::{Fault, Slot, SurePiece};
+use slot_pool::Pool;
 use std::alloc::{AllocError, Global};
 use std::sync::Wait;
 use std::thread::{Threads, join};

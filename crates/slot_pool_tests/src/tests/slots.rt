@@ -4,10 +4,10 @@ ghost use Rattle.std.specs.Prelude.{◌≡◌, ℕ, ◌≤◌, length, IfOk};
 ghost use Rattle.slot_pool.specs.Tallies.{no_tally, tally_at};
 ghost use Rattle.slot_pool.specs.Pools.{AreSlotsOf};
 
-use slot_pool::Pool;
 use domains::DriveId;
 use flex_io::{Fault, Rack, SurePiece, SureRack};
 use lists::List;
+use slot_pool::Pool;
 use std::alloc::Global;
 
 /// The slots of a drive, in the order of their numbers.

@@ -5,9 +5,9 @@ ghost use Rattle.held_slots.specs.Slots.{place_from, IsOn};
 ghost use Rattle.slot_pool.specs.Tallies.{took, gave, found_none, tally_at};
 ghost use Rattle.turn_cell.specs.Seats.{IsIdleOf, cell_view, seat_view};
 
-use slot_pool::Pool;
 use flex_io::Slot;
 use held_slots::{Empty, Held};
+use slot_pool::Pool;
 use std::alloc::AllocError;
 use std::sync::Wait;
 use turn_cell::{Seat, TurnCell};

@@ -4,12 +4,12 @@ ghost use Rattle.std.specs.Prelude.{◌≡◌, ◌≤◌, length, IfOk, true};
 ghost use Rattle.domains.specs.Shape.{is_of};
 ghost use Rattle.slot_pool.specs.Pools.{AreSlotsOf};
 
-use slot_yard::{Yard, YardParts};
 use domains::{DriveId, Shape};
 use flex_io::{Fault, Rack, Slot, SurePiece, SureRack};
 use held_slots::Held;
 use lists::List;
 use slot_pool::Pool;
+use slot_yard::{Yard, YardParts};
 use std::alloc::{AllocError, Global};
 
 /// Two nodes of two drives with five slots each.

@@ -3,20 +3,14 @@
 ghost use Rattle.std.specs.Prelude.{◌≡◌};
 ghost use Rattle.turn_cell.specs.Seats.{seat_view};
 
-use turn_cell::{Chronicle, Seat, TurnCell};
 use std::thread::{Threads, join};
+use turn_cell::{Chronicle, Seat, TurnCell};
 
-fn words<S: Chronicle>(cell: &TurnCell<S>) -> usize
-    ensures { result ≡ 2 }
-{
-    cell.table.word_count()
-}
+fn is_sync<T: Sync>(_: &T) {}
 
-/// Two threads look at one cell.
-pub fn share<S: Chronicle + Send, R: Threads + Sync>(rt: &R, cell: &TurnCell<S>) -> (usize, usize)
-    ensures { (result.0 ≡ 2) × (result.1 ≡ 2) }
-{
-    join(rt, || words(cell), || words(cell))
+/// Threads may share a cell: this compiles.
+pub fn share<S: Chronicle + Send>(cell: &TurnCell<S>) {
+    is_sync(cell);
 }
 
 /// Two seats go to a thread each.

@@ -2,8 +2,8 @@
 
 ghost use Rattle.std.specs.Prelude.{◌≡◌, ◌≢◌, ℕ, ◌+◌, ◌%◌, ◌^◌, ◌<◌, [], ◌∷◌, ◌++◌, OnErr, OnOk, slice_index};
 
-use turn_cell::{Chronicle, Note};
 use std::alloc::{AllocError, Global};
+use turn_cell::{Chronicle, Note};
 
 /// Numbers with their notes, and how many numbers each seat has written.
 #[derive(Drop)]

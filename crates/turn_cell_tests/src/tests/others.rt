@@ -7,8 +7,8 @@ ghost use Rattle.turn_cell_tests.specs.declared.tests.numbers.Numbers.{Numbers};
 ghost use Rattle.turn_cell.specs.Seats.{IsIdleOf, cell_view, seat_view};
 
 use super::numbers::Numbers;
-use turn_cell::{Seat, TurnCell};
 use std::sync::Wait;
+use turn_cell::{Seat, TurnCell};
 
 /// Takes a turn that changes nothing. Of the notes that the seat had not seen, none is its own.
 pub fn look<R: Wait>(rt: &R, cell: &TurnCell<Numbers>, seat: &mut Seat<Numbers>)

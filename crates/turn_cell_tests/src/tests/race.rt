@@ -7,10 +7,10 @@ ghost use Rattle.turn_cell.specs.Notes.{AreBelow, entries_by};
 ghost use Rattle.turn_cell.specs.Seats.{AreNewSeats, IsIdleOf, cell_view, seat_view};
 
 use super::numbers::Numbers;
-use turn_cell::{Seat, TurnCell};
 use std::alloc::{AllocError, Global};
 use std::sync::Wait;
 use std::thread::{Threads, join};
+use turn_cell::{Seat, TurnCell};
 
 /// Writes a number in one turn.
 fn write<R: Wait>(
