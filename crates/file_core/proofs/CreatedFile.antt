@@ -18,9 +18,10 @@ use Rattle.file_history.specs.Layout.{Layout, layout_after_event}
 use Rattle.file_history.specs.Step.{AreDistinct, IsNewPlace}
 use Rattle.file_history.specs.Stored.{IsRooted}
 use Rattle.file_history.specs.declared.entry.FileEvent.TheVariants.{Created, Deleted}
-use Rattle.file_core.specs.StoredGroups.{Content, StoredGroup, SpellIn}
+use Rattle.striped_groups.specs.StoredGroups.{Content, StoredGroup, SpellIn}
 use Rattle.file_core.specs.FileInvariant.{KeepsSlots, is_there}
-use Rattle.file_core.specs.Creation.{Took, empty_inode}
+use Rattle.striped_groups.specs.StoredGroups.{Took}
+use Rattle.file_core.specs.Creation.{empty_inode}
 
 -- what holds of all elements holds of one
 all_contains : {A : Type 0} (P : A → Type 0) (xs : List A) (k : ℕ) (x : A) → AllByRecursion P xs → k < length xs → get_or xs k x ≡ x → P x

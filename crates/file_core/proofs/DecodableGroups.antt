@@ -18,7 +18,7 @@ use Rattle.file_history.specs.Stored.{inode_of}
 use Rattle.file_core.specs.declared.pull.PullRefusal.{PullRefusal}
 use Rattle.file_core.specs.declared.pull.PullRefusal.TheVariants as refusal
 use Rattle.file_core.specs.declared.pull.PulledGroup.{PulledGroup}
-use Rattle.file_core.specs.StoredGroups.{GroupSlots, SpellIn, StoredGroup, list_of, stored_group}
+use Rattle.striped_groups.specs.StoredGroups.{GroupSlots, SpellIn, StoredGroup, list_of, stored_group}
 use Rattle.file_core.specs.FileInvariant.{KeepsSlots}
 use Rattle.file_core.specs.Pulls.{AreAllPulled, ArePulled, AreRead, IsPulled, IsPulledIf, IsRead, IsRootPulled, count_live, first_live, first_of, is_asked, is_last, live_at, lost_from, lost_of, needs}
 use Rattle.file_core.specs.PullAnswers.{CanDecode, asks_inode, first_cause, group_of, refusal_in}

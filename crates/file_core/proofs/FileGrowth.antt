@@ -14,7 +14,7 @@ use Rattle.file_history.specs.declared.entry.NotedEntry.{NotedEntry}
 use Rattle.file_history.proofs.HistoryGrowth.{layout_after-push, bytes_after-push}
 use Rattle.file_core.specs.declared.noted.Noted.{Noted}
 use Rattle.file_core.specs.Notes.{told_of, IsNotedStep, AreNotedSteps, last_epoch_of}
-use Rattle.file_core.specs.StoredGroups.{StoredGroup}
+use Rattle.striped_groups.specs.StoredGroups.{StoredGroup}
 use Rattle.file_core.specs.FileInvariant.{KeepsSlots, KeepsFile}
 use Rattle.file_core.specs.FileView.{is_quiet}
 use Rattle.file_core.proofs.NoteLogLemmas.{last_epoch_of-push}

@@ -8,7 +8,7 @@ use Rattle.flex_io.specs.declared.raw_place.RawPlace.{RawPlace}
 use Rattle.domains.specs.Shape.{Shape}
 use Rattle.domains.specs.declared.group.Group.{Group}
 use Rattle.file_history.specs.Layout.{Layout, all_groups, group_list}
-use Rattle.file_core.specs.StoredGroups.{GroupSlots, StoredGroup, SpellIn, stored_group, list_of}
+use Rattle.striped_groups.specs.StoredGroups.{GroupSlots, StoredGroup, SpellIn, stored_group, list_of}
 use Rattle.file_core.specs.FileInvariant.{KeepsSlots, is_there}
 use Rattle.std.specs.List.{AllByRecursion}
 use Rattle.std.proofs.lemmas.List.{length-map}

@@ -5,7 +5,7 @@ use Rattle.flex_io.specs.declared.raw_place.RawPlace.{RawPlace}
 use Rattle.domains.specs.Place.{Place}
 use Rattle.domains.specs.declared.group.Group.{Group}
 use Rattle.held_slots.specs.Slots.{place_from, places_from}
-use Rattle.file_core.specs.StoredGroups.{stored_group}
+use Rattle.striped_groups.specs.StoredGroups.{stored_group}
 use Rattle.file_core.specs.Pulls.{first_live}
 
 pub length_first_live : (places : List Place) (need position : ℕ) (live : ℕ → Place → Bool) → length (first_live places need position live) ≡ length places

@@ -19,7 +19,7 @@ use Rattle.file_history.specs.Layout.{Layout, Unit_, group_list}
 use Rattle.file_history.specs.Live.{Part}
 use Rattle.file_history.specs.Stored.{inode_of}
 use Rattle.file_core.specs.declared.pull.PulledGroup.{PulledGroup}
-use Rattle.file_core.specs.StoredGroups.{AllTell, Content, GroupSlots, StoredGroup, HoldEach, HoldRun, HoldsUnits, stored_group, list_of}
+use Rattle.striped_groups.specs.StoredGroups.{AllTell, Content, GroupSlots, StoredGroup, HoldEach, HoldRun, HoldsUnits, stored_group, list_of}
 use Rattle.file_core.specs.FileInvariant.{KeepsSlots}
 use Rattle.file_core.specs.Pulls.{AreAllPulled, ArePulled, AreRead, IsPulled, IsPulledIf, IsRead, first_live, is_asked, is_last, live_at, needs}
 use Rattle.file_core.specs.PullAnswers.{ShowsGroup, ShowsInode, asks_inode, group_of}

@@ -12,7 +12,7 @@ use Rattle.file_history.specs.Layout.{Layout, group_list, layout_after}
 use Rattle.file_history.specs.Stored.{IsRooted, inode_of}
 use Rattle.file_history.specs.declared.entry.NotedEntry.{NotedEntry}
 use Rattle.file_history.proofs.RootedLayouts.{layout_rooted}
-use Rattle.file_core.specs.StoredGroups.{GroupSlots, StoredGroup, SpellIn, StandsThere, stored_group, list_of}
+use Rattle.striped_groups.specs.StoredGroups.{GroupSlots, StoredGroup, SpellIn, StandsThere, stored_group, list_of}
 use Rattle.file_core.specs.FileInvariant.{KeepsSlots}
 use Rattle.file_core.specs.Pulls.{MayPull, MayPullRoot, first_len}
 use Rattle.file_core.specs.PullAnswers.{group_of}

@@ -11,7 +11,7 @@ use Rattle.file_history.specs.Layout.{Unit_}
 use Rattle.file_history.specs.Live.{Part}
 use Rattle.file_core.specs.declared.pull.PulledGroup.{PulledGroup}
 use Rattle.file_core.specs.DeadUnits.{names}
-use Rattle.file_core.specs.StoredGroups.{GroupSlots}
+use Rattle.striped_groups.specs.StoredGroups.{GroupSlots}
 use Rattle.file_core.specs.Pulls.{AreAllPulled, ArePulled, AreRead, IsPulled, IsPulledIf, IsRootPulled, count_live, first_len, first_live, first_of, is_last, live_at, lost_from, lost_of, needs}
 use Rattle.file_core.specs.PullAnswers.{first_cause, refusal_in, unknown_in}
 

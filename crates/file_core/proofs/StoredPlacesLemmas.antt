@@ -17,7 +17,7 @@ use Rattle.file_history.specs.Stored.{IsStored, HoldsGroups, AreHeld, SpellsInod
 use Rattle.file_history.proofs.DeterminedByLiveUnits.{all_left, all_right, determined}
 use Rattle.file_history.proofs.KnownContents.{AllTold, told_stored}
 use Rattle.file_history.proofs.RootedLayouts.{layout_rooted}
-use Rattle.file_core.specs.StoredGroups.{AllTell, Content, GroupSlots, StoredGroup, StandsThere, HoldEach, HoldRun, SpellIn, stored_group, list_of}
+use Rattle.striped_groups.specs.StoredGroups.{AllTell, Content, GroupSlots, StoredGroup, StandsThere, HoldEach, HoldRun, SpellIn, stored_group, list_of}
 use Rattle.file_core.specs.FileInvariant.{KeepsSlots}
 use Rattle.file_core.specs.FileView.{layout_of, log_of}
 use Rattle.file_core.specs.StoredPlaces.{LiveSlotsDetermine, PlacesHoldTheFile, content_at, slots_of, told_bytes}

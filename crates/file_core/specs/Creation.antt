@@ -1,6 +1,5 @@
 -- What a creation does.
-use Rattle.std.specs.Prelude.{◌≡◌, ℕ, List, [], length, Option, Some}
-use Rattle.flex_io.specs.Slots.{Holds}
+use Rattle.std.specs.Prelude.{ℕ, List, [], Some}
 use Rattle.flex_io.specs.declared.raw_place.RawPlace.{RawPlace}
 use Rattle.domains.specs.Level.{Level}
 use Rattle.domains.specs.declared.by.By.{By}
@@ -16,12 +15,6 @@ use Rattle.file_core.specs.FileView.{FileView, layout_of, with_note}
 -- the inode of a file without bytes
 abbrev pub empty_inode : Level → ℕ → Inode
 empty_inode level unit = record { level = level; unit = unit; size = 0; groups = [] }
-
-module _ {S : Type 0} (content : S → Option (List ℕ)) (len_of : S → ℕ) where
-  -- the last write to the slot was of these bytes
-  pub record Took (bytes : List ℕ) (x : S) : Type 0 where
-    pub held : Holds (content x) bytes
-    pub len : len_of x ≡ length bytes
 
 module _ {S : Type 0} (place_of : S → RawPlace) where
   -- the group of an inode whose units stand on these slots

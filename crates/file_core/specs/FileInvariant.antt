@@ -20,7 +20,7 @@ use Rattle.file_core.specs.declared.head.Head.{Head}
 use Rattle.file_history.specs.Live.{is_dead}
 use Rattle.file_core.specs.DeadUnits.{names}
 use Rattle.file_core.specs.Notes.{AreNotedSteps, last_epoch_of, told_of}
-use Rattle.file_core.specs.StoredGroups.{StoredGroup, StandsThere, HoldRun, SpellIn}
+use Rattle.striped_groups.specs.StoredGroups.{StoredGroup, StandsThere, HoldRun, SpellIn}
 
 abbrev pub is_there : Option Group → Bool
 is_there None = false

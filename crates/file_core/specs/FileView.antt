@@ -13,7 +13,7 @@ use Rattle.file_history.specs.declared.entry.FileEvent.TheVariants.{Created, Del
 use Rattle.file_history.specs.declared.entry.NotedEntry.{NotedEntry}
 use Rattle.file_core.specs.declared.noted.Noted.{Noted}
 use Rattle.file_core.specs.Notes.{kept_view, told_of, moment_of, last_epoch_of}
-use Rattle.file_core.specs.StoredGroups.{GroupSlots, StoredGroup, stored_group, list_of, AllTell}
+use Rattle.striped_groups.specs.StoredGroups.{GroupSlots, StoredGroup, stored_group, list_of, AllTell}
 use Rattle.file_core.specs.FileInvariant.{KeepsFile}
 
 -- its number, the cluster, its declared level, how many entries the log may have, the turns passed and the seat whose turn it is,

@@ -1,6 +1,5 @@
 pub mod Notes
 pub mod NoteLog
-pub mod StoredGroups
 pub mod DeadUnits
 pub mod FileInvariant
 pub mod FileView

@@ -15,7 +15,7 @@ use Rattle.file_history.specs.Stored.{inode_of}
 use Rattle.file_core.specs.declared.pull.PullRefusal.{PullRefusal}
 use Rattle.file_core.specs.declared.pull.PullRefusal.TheVariants as refusal
 use Rattle.file_core.specs.declared.pull.PulledGroup.{PulledGroup}
-use Rattle.file_core.specs.StoredGroups.{GroupSlots}
+use Rattle.striped_groups.specs.StoredGroups.{GroupSlots}
 use Rattle.file_core.specs.Pulls.{first_of, is_asked, lost_from, lost_of}
 
 -- the generation that the part asks for, if none of these groups has it

@@ -15,7 +15,7 @@ use Rattle.file_history.specs.Live.{Part, range, write, one, holds_byte, is_touc
 use Rattle.file_core.specs.declared.pull.Part.{Part as Asked}
 use Rattle.file_core.specs.declared.pull.Part.TheVariants.{Range, Write, One}
 use Rattle.file_core.specs.declared.pull.PulledGroup.{PulledGroup}
-use Rattle.file_core.specs.StoredGroups.{GroupSlots}
+use Rattle.striped_groups.specs.StoredGroups.{GroupSlots}
 
 -- of the units from this position on, which are the first `need` that are live
 abbrev pub first_live : List Place → ℕ → ℕ → (ℕ → Place → Bool) → List Bool

@@ -7,7 +7,7 @@ use Rattle.domains.specs.Place.{Place, same_place}
 use Rattle.held_slots.specs.Slots.{place_from}
 use Rattle.file_history.specs.Laws.{LeavesEnough}
 use Rattle.file_history.specs.Stored.{IsStored, IsDetermined}
-use Rattle.file_core.specs.StoredGroups.{AllTell, GroupSlots, list_of}
+use Rattle.striped_groups.specs.StoredGroups.{AllTell, GroupSlots, list_of}
 use Rattle.file_core.specs.FileView.{FileView, IsFile, bytes_of, layout_of, now_of}
 
 -- the bytes, none where nothing tells them

@@ -7,14 +7,14 @@ ghost use Rattle.domains.specs.DriveSet.{has};
 ghost use Rattle.file_history.specs.Refusals.{is_barred};
 ghost use Rattle.file_history.specs.Step.{Clears};
 ghost use Rattle.file_core.specs.Notes.{noted};
-ghost use Rattle.file_core.specs.StoredGroups.{list_of};
+ghost use Rattle.striped_groups.specs.StoredGroups.{list_of};
 ghost use Rattle.file_core.specs.PullAnswers.{group_of};
 ghost use Rattle.file_core.specs.ClearFiles.{AnswersFirst, AnswersInode, IsClearAt, IsClearInodeAt, IsFirstUnclear, are_clean};
 ghost use Rattle.file_core.specs.FileView.{IsFile, IsLater, layout_of, with_note};
 
 use crate::head::Head;
 use crate::state::FileState;
-use crate::stripe::Stripe;
+use striped_groups::Stripe;
 use board::View;
 use domains::{By, DriveSet, Group, Place};
 use file_history::FileEvent;

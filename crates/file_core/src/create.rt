@@ -2,16 +2,16 @@
 
 ghost use Rattle.std.specs.Prelude.{◌≡◌, ◌≤◌, ◌++◌, [], Some, length, IfErr, IfOk, OnOk, OnErr};
 ghost use Rattle.std.specs.List.{AllByRecursion};
-ghost use Rattle.domains.specs.Place.{IsPlace, IsPlaceOf};
+ghost use Rattle.domains.specs.Place.{IsPlaceOf};
 ghost use Rattle.held_slots.specs.Slots.{places_from};
 ghost use Rattle.file_history.specs.Step.{Creates};
 ghost use Rattle.inode_codec.specs.Inode.{inode_bytes};
-ghost use Rattle.file_core.specs.Creation.{Took, created_on, empty_inode, inode_group};
+ghost use Rattle.striped_groups.specs.StoredGroups.{Took};
+ghost use Rattle.file_core.specs.Creation.{created_on, empty_inode, inode_group};
 ghost use Rattle.file_core.specs.FileView.{IsFile, IsLater, layout_of, now_of, with_note};
 ghost use Rattle.file_core.specs.Notes.{noted};
 
 use crate::state::FileState;
-use crate::stripe::Stripe;
 use board::View;
 use domains::{By, Group, Place};
 use file_history::FileEvent;
@@ -20,6 +20,7 @@ use held_slots::Held;
 use inode_codec::Inode;
 use lists::List;
 use std::alloc::{AllocError, Global};
+use striped_groups::{Stripe, push_places};
 
 /// The group of a new inode, for the log and for the file.
 #[derive(Drop)]
@@ -132,16 +133,4 @@ impl<S: Slot + Send + Drop> FileState<S> {
         let none = self.inode.replace(Stripe { group: kept, slots });
         let None = none else { unreachable!() };
     }
-}
-
-/// Puts the places of the slots behind others.
-fn push_places<S: Slot>(slots: &[Held<S>], places: &mut Vec<Place>) -> Result<(), AllocError>
-    requires { AllByRecursion IsPlace (places_from S.place_of slots.now) }
-    ensures { OnOk result (places.new.items ≡ places.old.items ++ places_from S.place_of slots.now) }
-{
-    let [first, rest @ ..] = slots else {
-        return Ok(());
-    };
-    places.push(first.place())?;
-    push_places(rest, places)
 }

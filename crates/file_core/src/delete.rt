@@ -6,7 +6,7 @@ ghost use Rattle.file_core.specs.FileView.{IsFile, IsLater, layout_of, with_note
 
 use crate::notes::Absent;
 use crate::state::FileState;
-use crate::stripe::Stripe;
+use striped_groups::Stripe;
 use board::View;
 use domains::By;
 use file_history::{FileEvent, FileLog};

@@ -19,7 +19,6 @@ mod pull;
 mod pull_groups;
 mod reading;
 mod state;
-mod stripe;
 
 pub use chronicle::FileTerms;
 pub use clear::NotClear;
@@ -29,4 +28,4 @@ pub use noted::Noted;
 pub use notes::Absent;
 pub use pull::{Part, PullRefusal, Pulled, PulledGroup};
 pub use state::FileState;
-pub use stripe::Stripe;
+pub use striped_groups::Stripe;

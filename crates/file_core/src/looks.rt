@@ -10,7 +10,7 @@ ghost use Rattle.file_core.specs.Looks.{IsLook};
 ghost use Rattle.file_core.specs.FileView.{layout_of};
 
 use crate::state::FileState;
-use crate::stripe::Stripe;
+use striped_groups::Stripe;
 use domains::{DriveSet, Group, Level};
 use flex_io::Slot;
 

@@ -4,13 +4,13 @@ ghost use Rattle.std.specs.Prelude.{◌≡◌, ◌≤◌, ◌<◌, ◌+◌, ◌*
 ghost use Rattle.std.specs.List.{AllByRecursion, list_any};
 ghost use Rattle.domains.specs.declared.group.Group.{Group};
 ghost use Rattle.file_core.specs.Pulls.{IsPart, first_of, lost_from, lost_of, part_of};
-ghost use Rattle.file_core.specs.StoredGroups.{list_of};
+ghost use Rattle.striped_groups.specs.StoredGroups.{list_of};
 ghost use Rattle.file_core.specs.PullAnswers.{first_cause, group_of, refusal_in, unknown_in};
 
 use crate::head::Head;
 use crate::live::Sight;
 use crate::pull::{Part, PullRefusal};
-use crate::stripe::Stripe;
+use striped_groups::Stripe;
 use domains::{Group, Lost};
 
 /// Why nothing can be pulled of a file with this inode and these groups, but for want of memory.

@@ -8,7 +8,7 @@ ghost use Rattle.file_history.specs.Live.{IsReadable, range};
 ghost use Rattle.file_history.specs.Refusals.{IsLegalRefusal};
 ghost use Rattle.file_history.specs.Step.{Bars, IsEvent, ShowsBytes};
 ghost use Rattle.file_core.specs.Notes.{noted};
-ghost use Rattle.file_core.specs.StoredGroups.{AllTell};
+ghost use Rattle.striped_groups.specs.StoredGroups.{AllTell};
 ghost use Rattle.file_core.specs.FileView.{IsFile, IsLater, bytes_of, is_quiet, layout_of, log_of, now_of, with_note};
 
 use crate::state::FileState;

@@ -5,7 +5,7 @@ ghost use Rattle.std.specs.List.{AllByRecursion};
 ghost use Rattle.std.specs.Result.{IsErrOf};
 ghost use Rattle.domains.specs.declared.group.Lost.{Lost};
 ghost use Rattle.file_history.specs.Live.{first_short};
-ghost use Rattle.file_core.specs.StoredGroups.{AllTell};
+ghost use Rattle.striped_groups.specs.StoredGroups.{AllTell};
 ghost use Rattle.file_core.specs.FileView.{IsFile, bytes_of, layout_of, now_of, stored_groups, stored_inode};
 ghost use Rattle.file_core.specs.Looks.{IsLook};
 ghost use Rattle.file_core.specs.Pulls.{AreAllPulled, IsPart, part_of};

@@ -2,14 +2,14 @@
 
 ghost use Rattle.std.specs.Prelude.{◌≡◌, ◌≤◌, ◌<◌, ◌+◌, ◌*◌, ◌^◌, length, map, Some, IfOk, IsOk, IsSome, OnOk};
 ghost use Rattle.std.specs.List.{AllByRecursion};
-ghost use Rattle.file_core.specs.StoredGroups.{list_of, stored_group};
+ghost use Rattle.striped_groups.specs.StoredGroups.{list_of, stored_group};
 ghost use Rattle.file_core.specs.Pulls.{AreAllPulled, ArePulled, IsPart, IsPulled, IsPulledIf, IsRootPulled, MayPull, MayPullRoot, first_len, part_of};
 
 use crate::head::Head;
 use crate::live::Sight;
 use crate::pull::{Part, PulledGroup};
 use crate::reading::read_where;
-use crate::stripe::Stripe;
+use striped_groups::Stripe;
 use domains::Group;
 use flex_io::{Slot, Steady};
 use held_slots::Held;

@@ -6,7 +6,7 @@ ghost use Rattle.file_core.specs.FileView.{IsFile};
 
 use crate::head::Head;
 use crate::note_log::NoteLog;
-use crate::stripe::Stripe;
+use striped_groups::Stripe;
 use board::Grow;
 use domains::{Level, Shape};
 use flex_io::Slot;
@@ -31,7 +31,7 @@ impl<S: Slot + Send + Drop> Model for FileState<S> {
     ghost use Rattle.std.specs.Prelude.{◌≡◌, ◌≤◌, ◌+◌, length, map};
     ghost use Rattle.file_history.specs.Layout.{layout_after};
     ghost use Rattle.file_core.specs.Notes.{told_of};
-    ghost use Rattle.file_core.specs.StoredGroups.{AllTell, list_of, stored_group};
+    ghost use Rattle.striped_groups.specs.StoredGroups.{AllTell, list_of, stored_group};
     ghost use Rattle.file_core.specs.FileInvariant.{IsHead, KeepsFile};
     ghost use Rattle.file_core.specs.FileView.{FileView};
 

@@ -4,7 +4,8 @@ ghost use Rattle.std.specs.Prelude.{◌≡◌, ◌≤◌, ◌∷◌, [], IfOk, S
 ghost use Rattle.std.specs.List.{AllByRecursion};
 ghost use Rattle.flex_io.specs.SurePieces.{Piece};
 ghost use Rattle.inode_codec.specs.Inode.{inode_bytes};
-ghost use Rattle.file_core.specs.Creation.{Took, empty_inode};
+ghost use Rattle.striped_groups.specs.StoredGroups.{Took};
+ghost use Rattle.file_core.specs.Creation.{empty_inode};
 ghost use Rattle.file_core.specs.Examples.{IsNew, first, second, small, SeesAll};
 
 use board::{Grow, View};

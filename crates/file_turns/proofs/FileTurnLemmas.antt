@@ -4,7 +4,7 @@ use Rattle.std.proofs.lemmas.List.Elements.{All-cons, All-nil}
 use Rattle.turn_cell.specs.Seats.{Enters, SeatView, in_turn, left}
 use Rattle.turn_cell.specs.declared.chronicle.Note.{Note}
 use Rattle.file_core.specs.FileView.{FileView, with_note}
-use Rattle.file_core.specs.StoredGroups.{GroupSlots}
+use Rattle.striped_groups.specs.StoredGroups.{GroupSlots}
 use Rattle.file_core.specs.declared.chronicle.FileTerms.{FileTerms}
 use Rattle.file_core.specs.declared.noted.Noted.{Noted}
 use Rattle.file_turns.specs.FileTurns.{ChangesFile, FileTurn, terms_of}

@@ -17,7 +17,7 @@ use Rattle.file_core.specs.Looks.{IsLook}
 use Rattle.file_core.specs.Notes.{noted}
 use Rattle.file_core.specs.Pulls.{AreAllPulled, is_asked}
 use Rattle.file_core.specs.PullAnswers.{CanDecode, ShowsGroup, asks_inode, unknown_of}
-use Rattle.file_core.specs.StoredGroups.{AllTell, GroupSlots}
+use Rattle.striped_groups.specs.StoredGroups.{AllTell, GroupSlots}
 use Rattle.file_core.specs.declared.pull.PullRefusal.{PullRefusal}
 use Rattle.file_core.specs.declared.pull.PullRefusal.TheVariants as refusal
 use Rattle.file_core.specs.declared.pull.Pulled.{Pulled}

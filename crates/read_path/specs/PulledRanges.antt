@@ -7,7 +7,7 @@ use Rattle.file_history.specs.Live.{IsReadable, first_short, range}
 use Rattle.file_core.specs.FileView.{FileView, bytes_of, layout_of, now_of, stored_groups, stored_inode}
 use Rattle.file_core.specs.Pulls.{AreAllPulled}
 use Rattle.file_core.specs.PullAnswers.{CanDecode, ShowsGroup}
-use Rattle.file_core.specs.StoredGroups.{AllTell}
+use Rattle.striped_groups.specs.StoredGroups.{AllTell}
 use Rattle.file_core.specs.declared.pull.PullRefusal.{PullRefusal}
 use Rattle.file_core.specs.declared.pull.PullRefusal.TheVariants.{Absent, Unknown, Lost, NoMemory}
 use Rattle.file_core.specs.declared.pull.Pulled.{Pulled}

@@ -13,7 +13,7 @@ use Rattle.file_history.specs.declared.entry.Refused.TheVariants.{ReadAbsent, Re
 use Rattle.file_core.specs.FileView.{FileView, bytes_of, layout_of, now_of, stored_groups, stored_inode, with_note}
 use Rattle.file_core.specs.Notes.{last_epoch_of, noted}
 use Rattle.file_core.specs.Pulls.{AreAllPulled}
-use Rattle.file_core.specs.StoredGroups.{AllTell}
+use Rattle.striped_groups.specs.StoredGroups.{AllTell}
 use Rattle.file_core.specs.declared.pull.PulledGroup.{PulledGroup}
 use Rattle.file_turns.specs.PathRoom.{entries_of_path, with_room}
 use Rattle.file_turns.specs.Paths.{Begins, IsFull, IsRefused, SeesBoard}

@@ -14,7 +14,8 @@ use Rattle.inode_codec.specs.Inode.{inode_bytes}
 use Rattle.placement_order.specs.Order.{DrawRequest}
 use Rattle.file_history.specs.Layout.{all_groups}
 use Rattle.file_history.specs.Step.{Creates}
-use Rattle.file_core.specs.Creation.{Took, empty_inode, inode_group}
+use Rattle.striped_groups.specs.StoredGroups.{Took}
+use Rattle.file_core.specs.Creation.{empty_inode, inode_group}
 use Rattle.file_core.specs.FileView.{FileView, layout_of, now_of}
 use Rattle.placement.specs.PlacedGroups.{Places, spent_by}
 use Rattle.file_turns.specs.NewInodes.{AsksForInode}

@@ -14,7 +14,7 @@ use Rattle.slot_search.specs.HandSeats.{AreOfCluster}
 use Rattle.file_history.specs.Layout.{all_groups, group_list, places_of}
 use Rattle.file_core.specs.Accounts.{units_at}
 use Rattle.file_core.specs.FileView.{FileView, IsFile, layout_of}
-use Rattle.file_core.specs.StoredGroups.{GroupSlots, list_of}
+use Rattle.striped_groups.specs.StoredGroups.{GroupSlots, list_of}
 use Rattle.file_turns.specs.PathAccounts.{on_drive}
 use Rattle.write_path.specs.Releases.{slots_in}
 use Rattle.write_path.proofs.ReleasedAccounts.{count_places, grouped, places_stand}

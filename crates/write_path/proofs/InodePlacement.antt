@@ -14,7 +14,8 @@ use Rattle.inode_codec.specs.Inode.{inode_bytes}
 use Rattle.file_history.specs.Refusals.{IsLegalRefusal, room_at}
 use Rattle.file_history.specs.Step.{Creates}
 use Rattle.file_history.specs.declared.entry.Refused.TheVariants.{CreateNoRoom}
-use Rattle.file_core.specs.Creation.{Took, created_on, empty_inode, inode_group}
+use Rattle.striped_groups.specs.StoredGroups.{Took}
+use Rattle.file_core.specs.Creation.{created_on, empty_inode, inode_group}
 use Rattle.file_core.specs.FileView.{FileView, IsFile, layout_of, now_of}
 use Rattle.file_core.specs.Looks.{IsLook}
 use Rattle.file_core.specs.declared.looks.Look.{Look}

@@ -26,7 +26,7 @@ use Rattle.file_history.specs.declared.entry.FileEvent.{FileEvent}
 use Rattle.file_core.specs.Accounts.{groups_placed, groups_taken, is_own, placed_by, taken_by, units_at}
 use Rattle.file_core.specs.FileView.{FileView, layout_of}
 use Rattle.file_core.specs.Notes.{told_of}
-use Rattle.file_core.specs.StoredGroups.{GroupSlots, StandsThere, StoredGroup, list_of, stored_group}
+use Rattle.striped_groups.specs.StoredGroups.{GroupSlots, StandsThere, StoredGroup, list_of, stored_group}
 use Rattle.file_core.specs.declared.noted.Noted.{Noted}
 use Rattle.file_core.proofs.FileAccounts.{accounts_stay, placed_in-append, taken_in-append}
 use Rattle.file_turns.specs.FileTurns.{FollowsFile}

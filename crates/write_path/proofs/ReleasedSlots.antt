@@ -17,7 +17,7 @@ use Rattle.fabric.specs.declared.hand.Hand.{Hand}
 use Rattle.fabric.specs.Views.{IsHandOf}
 use Rattle.slot_search.specs.HandSeats.{AreOfCluster}
 use Rattle.slot_search.specs.Searches.{KeepsHand}
-use Rattle.file_core.specs.StoredGroups.{GroupSlots}
+use Rattle.striped_groups.specs.StoredGroups.{GroupSlots}
 use Rattle.write_path.specs.Releases.{IsReleased, ReleasesEach, slots_in}
 
 all_front : {A : Type 0} (P : A → Type 0) (x : A) (xs : List A) → All P (x ∷ xs) → P x

@@ -14,7 +14,7 @@ use Rattle.file_history.specs.declared.entry.Refused.{Refused as Refusal}
 use Rattle.file_history.specs.declared.entry.Refused.TheVariants.{DeleteAbsent}
 use Rattle.file_core.specs.FileView.{FileView, IsFile}
 use Rattle.file_core.specs.Notes.{noted}
-use Rattle.file_core.specs.StoredGroups.{list_of}
+use Rattle.striped_groups.specs.StoredGroups.{list_of}
 use Rattle.file_turns.specs.FileTurns.{ChangesFile}
 use Rattle.file_turns.specs.PathAccounts.{KeepsAccount}
 use Rattle.file_turns.specs.PathRoom.{with_room}

@@ -8,7 +8,7 @@ use Rattle.held_slots.specs.Slots.{drive_of}
 use Rattle.fabric.specs.Accounts.{Loses}
 use Rattle.fabric.specs.HandTurns.{Releases}
 use Rattle.fabric.specs.declared.hand.Hand.{Hand}
-use Rattle.file_core.specs.StoredGroups.{GroupSlots}
+use Rattle.striped_groups.specs.StoredGroups.{GroupSlots}
 
 -- the slots of the groups, by position
 abbrev pub slots_in : {S : Type 0} → List (GroupSlots S) → List S

@@ -9,7 +9,7 @@ use Rattle.file_history.specs.declared.entry.FileEvent.TheVariants.{Deleted}
 use Rattle.file_history.specs.declared.entry.Refused.TheVariants.{DeleteAbsent}
 use Rattle.file_core.specs.FileView.{FileView, layout_of, with_note}
 use Rattle.file_core.specs.Notes.{noted}
-use Rattle.file_core.specs.StoredGroups.{list_of}
+use Rattle.striped_groups.specs.StoredGroups.{list_of}
 use Rattle.file_turns.specs.PathRoom.{with_room}
 use Rattle.file_turns.specs.Paths.{Begins, IsFull, IsRefused, LacksMemory}
 use Rattle.write_path.specs.Releases.{ReleasesEach, slots_in}

@@ -1,6 +1,6 @@
 use Rattle.std.proofs.Common.{◌≡◌, ◌∙◌, ℕ, Bool, List, length, sym, subst, ap, rules}
 use Rattle.std.specs.List.{AllByRecursion}
-use Rattle.file_core.specs.StoredGroups.{GroupSlots, stored_group}
+use Rattle.striped_groups.specs.StoredGroups.{GroupSlots, stored_group}
 use Rattle.file_core.proofs.PullLemmas.{length_first_live, stored_same}
 use Rattle.file_core.proofs.pull_groups.pull_group.Goals as goal
 

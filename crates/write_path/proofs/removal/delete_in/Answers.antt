@@ -2,7 +2,7 @@
 use Rattle.std.proofs.Common.{◌≡◌, ℕ, ◌++◌, true, inr, refl, sym, subst, rules}
 use Rattle.domains.specs.Shape.{Shape}
 use Rattle.fabric.specs.Views.{fabric_view}
-use Rattle.file_core.specs.StoredGroups.{list_of}
+use Rattle.striped_groups.specs.StoredGroups.{list_of}
 use Rattle.slot_search.specs.HandSeats.{AreOfCluster}
 use Rattle.file_turns.specs.Paths.{SeesBoard}
 use Rattle.write_path.specs.Releases.{ReleasesEach, slots_in}

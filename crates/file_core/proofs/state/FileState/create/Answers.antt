@@ -3,7 +3,8 @@ use Rattle.std.specs.List.{AllByRecursion}
 use Rattle.domains.specs.declared.group.Group.{Group}
 use Rattle.held_slots.specs.Slots.{places_from}
 use Rattle.inode_codec.specs.Inode.{inode_bytes}
-use Rattle.file_core.specs.Creation.{Took, empty_inode}
+use Rattle.striped_groups.specs.StoredGroups.{Took}
+use Rattle.file_core.specs.Creation.{empty_inode}
 use Rattle.file_core.proofs.state.FileState.create.Goals as goal
 
 pub take_inode-requires-clause-stands : goal.take_inode-requires-clause-stands

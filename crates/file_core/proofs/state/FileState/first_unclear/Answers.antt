@@ -9,7 +9,7 @@ use Rattle.file_history.specs.Refusals.{is_barred}
 use Rattle.file_history.specs.Step.{Clears}
 use Rattle.file_history.proofs.RootedLayouts.{layout_rooted}
 use Rattle.file_core.specs.Notes.{told_of}
-use Rattle.file_core.specs.StoredGroups.{GroupSlots, stored_group, list_of}
+use Rattle.striped_groups.specs.StoredGroups.{GroupSlots, stored_group, list_of}
 use Rattle.file_core.specs.FileView.{FileView, layout_of}
 use Rattle.file_core.specs.ClearFiles.{AnswersFirst, IsFirstUnclear}
 use Rattle.file_core.proofs.ClearedGroups.{clears_if, first_unclear_is, if_clears, if_some}

@@ -1,7 +1,7 @@
 use Rattle.std.proofs.Common.{arith}
 use Rattle.std.proofs.lemmas.List.{length-map}
 use Rattle.file_core.specs.Notes.{told_of}
-use Rattle.file_core.specs.StoredGroups.{stored_group}
+use Rattle.striped_groups.specs.StoredGroups.{stored_group}
 use Rattle.file_core.proofs.GroupLookups.{few_groups}
 use Rattle.file_core.proofs.state.FileState.look.Goals as goal
 

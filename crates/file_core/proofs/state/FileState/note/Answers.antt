@@ -5,7 +5,7 @@ use Rattle.turn_cell.specs.declared.chronicle.Note.{Note}
 use Rattle.file_core.specs.declared.noted.Noted.{Noted}
 use Rattle.file_core.specs.Notes.{told_of, noted}
 use Rattle.file_core.specs.NoteLog.{NoteList}
-use Rattle.file_core.specs.StoredGroups.{AllTell, stored_group, list_of}
+use Rattle.striped_groups.specs.StoredGroups.{AllTell, stored_group, list_of}
 use Rattle.file_core.specs.FileInvariant.{KeepsFile, IsHead}
 use Rattle.file_core.specs.FileView.{FileView, IsLater, now_of, log_of, layout_of}
 use Rattle.file_core.proofs.FileGrowth.{KeepsFile-note, KeepsSlots-quiet, next-quiet, layout_after-note, epochs_up_to}

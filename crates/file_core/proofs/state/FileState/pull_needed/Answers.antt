@@ -8,7 +8,7 @@ use Rattle.file_history.specs.Layout.{Layout, layout_after}
 use Rattle.file_history.specs.Stored.{inode_of}
 use Rattle.file_core.specs.declared.pull.PulledGroup.{PulledGroup}
 use Rattle.file_core.specs.Notes.{told_of}
-use Rattle.file_core.specs.StoredGroups.{AllTell, GroupSlots, StoredGroup, stored_group, list_of}
+use Rattle.striped_groups.specs.StoredGroups.{AllTell, GroupSlots, StoredGroup, stored_group, list_of}
 use Rattle.file_core.specs.FileView.{FileView, bytes_of, layout_of, now_of}
 use Rattle.file_core.specs.Pulls.{AreAllPulled, MayPull, part_of}
 use Rattle.file_core.specs.PullAnswers.{CanDecode, ShowsGroup, ShowsInode, asks_inode, group_of, refusal_of}

@@ -3,7 +3,7 @@ use Rattle.std.specs.List.{AllByRecursion}
 use Rattle.std.proofs.lemmas.List.{length-map}
 use Rattle.file_history.specs.Layout.{layout_after}
 use Rattle.file_core.specs.Notes.{told_of}
-use Rattle.file_core.specs.StoredGroups.{GroupSlots, stored_group, list_of}
+use Rattle.striped_groups.specs.StoredGroups.{GroupSlots, stored_group, list_of}
 use Rattle.file_core.specs.FileView.{FileView, layout_of, now_of}
 use Rattle.file_core.specs.Pulls.{part_of}
 use Rattle.file_core.specs.PullAnswers.{group_of, refusal_in, refusal_of}

@@ -14,10 +14,11 @@ use Rattle.turn_cell.specs.declared.chronicle.Note.{Note}
 use Rattle.file_core.specs.declared.noted.Noted.{Noted}
 use Rattle.file_core.specs.Notes.{told_of, noted}
 use Rattle.file_core.specs.NoteLog.{NoteList}
-use Rattle.file_core.specs.StoredGroups.{AllTell, GroupSlots, StoredGroup, stored_group, list_of}
+use Rattle.striped_groups.specs.StoredGroups.{AllTell, GroupSlots, StoredGroup, stored_group, list_of}
 use Rattle.file_core.specs.FileInvariant.{KeepsFile, IsHead}
 use Rattle.file_core.specs.FileView.{FileView, IsLater, layout_of, now_of}
-use Rattle.file_core.specs.Creation.{Took, empty_inode}
+use Rattle.striped_groups.specs.StoredGroups.{Took}
+use Rattle.file_core.specs.Creation.{empty_inode}
 use Rattle.file_core.proofs.FileGrowth.{KeepsFile-note, layout_after-note, epochs_up_to}
 use Rattle.file_core.proofs.CreatedFile.{KeepsSlots-created, absent_empty, all_hold, all_long, empty_inode-is, few_units, new_within}
 use Rattle.file_core.proofs.state.FileState.take_inode.Given.{Over}

@@ -30,6 +30,12 @@ module _ {S : Type 0} (place_of : S → RawPlace) (content : S → Option (List 
   abbrev pub stored_group : GroupSlots S → StoredGroup
   stored_group g = record { group = g.group; places = places_from place_of g.slots; contents = map content g.slots; lengths = map len_of g.slots }
 
+module _ {S : Type 0} (content : S → Option (List ℕ)) (len_of : S → ℕ) where
+  -- the last write to the slot was of these bytes
+  pub record Took (bytes : List ℕ) (x : S) : Type 0 where
+    pub held : Holds (content x) bytes
+    pub len : len_of x ≡ length bytes
+
 -- the element, if there is one
 abbrev pub list_of : {A : Type 0} → Option A → List A
 list_of None = []

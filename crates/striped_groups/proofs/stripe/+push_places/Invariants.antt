@@ -1,5 +1,5 @@
 use Rattle.std.proofs.Common.{length}
-use Rattle.file_core.proofs.create.+push_places.Given as goal
+use Rattle.striped_groups.proofs.stripe.+push_places.Given as goal
 
 abbrev pub decreases-push_places : goal.decreases-push_places
 decreases-push_places g l = length l.slots.now

@@ -1,0 +1,6 @@
+pub mod RewrittenBytes
+pub mod HeldRuns
+pub mod NumberedGroups
+pub mod SwitchBounds
+pub mod ChangeLemmas
+mod InodeTexts

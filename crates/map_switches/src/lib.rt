@@ -1,0 +1,19 @@
+//! What a change of a file's map brings, and what it makes of the map: the new groups on their slots, the new inode's text, the groups
+//! that make way.
+#![tactic(auto)]
+
+mod change;
+mod exchanged;
+mod fresh_groups;
+mod held_places;
+mod inode_slots;
+mod map_text;
+mod prepared;
+
+pub use change::{Fresh, MapChange, Why, brought};
+pub use exchanged::{Exchanged, put_groups};
+pub use fresh_groups::{push_copies, push_group_places};
+pub use held_places::{inode_unmarked, last_generation, none_marked};
+pub use inode_slots::write_each;
+pub use map_text::InodeHead;
+pub use prepared::{Prepared, make_ready};
