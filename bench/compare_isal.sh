@@ -3,7 +3,10 @@
 #
 #   bench/compare_isal.sh [v2|v3] [ROUNDS]
 #
-# v2 compares with ISA-L's SSSE3 code, v3 with its AVX2 code. Each figure is the best slice of all rounds.
+# v2 compares with ISA-L's SSSE3 code, v3 with its AVX2 code. Each figure is the best slice of all rounds. A row of `encode`
+# or `build` compares with ISA-L's kernel alone, which writes into memory that is there, by tables made before. The row `whole`
+# below it compares with the same work: ISA-L's result comes from malloc, its tables are made in the call, and for `build` the
+# data are copied in front. Its matrix is still made before. The rounds have real-time priority where that is allowed.
 # ISA-L and a C compiler are needed (Debian: libisal-dev, gcc).
 set -u
 level=${1:-v2}
@@ -26,6 +29,7 @@ cat >"$work/isal.c" <<'C'
 #include <isa-l/erasure_code.h>
 #include <stdio.h>
 #include <stdlib.h>
+#include <string.h>
 #include <time.h>
 
 #define JOIN(a, b) a##b
@@ -74,6 +78,27 @@ static double code(int n, int m, int len) {
     return rate;
 }
 
+// The same with a result from malloc and tables made in each call. The result starts with a copy of `copied` units of data.
+static void whole_call(int n, int m, int len, int copied, unsigned char *matrix, unsigned char **from) {
+    unsigned char *result = malloc((size_t)(copied + m) * len), *to[7], tables[32 * 16 * 7];
+    if (!result) abort();
+    for (int i = 0; i < copied; i++) memcpy(result + (size_t)i * len, from[i], len);
+    for (int i = 0; i < m; i++) to[i] = result + (size_t)(copied + i) * len;
+    ec_init_tables(n, m, matrix + n * n, tables);
+    CALL(ec_encode_data_, ISA)(len, n, m, tables, from, to);
+    free(result);
+}
+
+static double whole(int n, int m, int len, int copied) {
+    unsigned char *in = sample((size_t)n * len), *from[16], matrix[23 * 16];
+    double rate;
+    for (int i = 0; i < n; i++) from[i] = in + (size_t)i * len;
+    gf_gen_cauchy1_matrix(matrix, n + m, n);
+    BEST(rate, (size_t)n * len, whole_call(n, m, len, copied, matrix, from));
+    free(in);
+    return rate;
+}
+
 static double multiple(int len) {
     unsigned char *in = sample(len), *out = sample(len), factor = 7, tables[32];
     double rate;
@@ -91,6 +116,12 @@ int main(void) {
         printf("encode (4,2) %d KiB %.2f\n", kib, code(4, 2, len));
         printf("encode (8,2) %d KiB %.2f\n", kib, code(8, 2, len));
         printf("encode (16,4) %d KiB %.2f\n", kib, code(16, 4, len));
+        printf("whole encode (4,2) %d KiB %.2f\n", kib, whole(4, 2, len, 0));
+        printf("whole encode (8,2) %d KiB %.2f\n", kib, whole(8, 2, len, 0));
+        printf("whole encode (16,4) %d KiB %.2f\n", kib, whole(16, 4, len, 0));
+        printf("whole build (4,2) %d KiB %.2f\n", kib, whole(4, 2, len, 4));
+        printf("whole build (8,2) %d KiB %.2f\n", kib, whole(8, 2, len, 8));
+        printf("whole build (16,4) %d KiB %.2f\n", kib, whole(16, 4, len, 16));
         printf("rebuild n=4 %d KiB %.2f\n", kib, code(4, 1, len));
         printf("rebuild n=8 %d KiB %.2f\n", kib, code(8, 1, len));
         printf("rebuild n=16 %d KiB %.2f\n", kib, code(16, 1, len));
@@ -104,19 +135,23 @@ gcc -O2 -DISA=$isa "$work/isal.c" -o "$work/isal" -lisal || exit 1
 (cd "$top/crates/bench_encode" && rt run --cpu="x86-64-$level") >"$work/build.log" 2>&1 || { cat "$work/build.log" >&2; exit 1; }
 cp "$top/crates/bench_encode/out/bench_encode" "$work/ours"
 
+first=()
+if chrt -f 50 true 2>/dev/null; then first=(chrt -f 50); fi
 for _ in $(seq "$rounds"); do
-    "$work/ours" time >>"$work/ours.txt"
-    "$work/isal" >>"$work/isal.txt"
+    "${first[@]}" "$work/ours" time >>"$work/ours.txt"
+    "${first[@]}" "$work/isal" >>"$work/isal.txt"
 done
 
 awk -v isa="$isa" -v level="$level" '
     function name(  i, text) { text = $1; for (i = 2; i < NF; i++) text = text " " $i; return text }
+    function print_row(label, mine, other) { printf "%-28s %10.2f %12.2f %7.2f\n", label, mine, other, mine / other }
     FNR == NR { key = name(); if ($NF > theirs[key]) theirs[key] = $NF; next }
     { key = name(); if (!(key in ours)) order[++count] = key; if ($NF > ours[key]) ours[key] = $NF }
     END {
-        printf "%-22s %10s %12s %7s\n", "GB/s of data", "ours " level, "ISA-L " isa, "ratio"
+        printf "%-28s %10s %12s %7s\n", "GB/s of data", "ours " level, "ISA-L " isa, "ratio"
         for (i = 1; i <= count; i++) {
             key = order[i]; other = key; sub(/^(kernel|build)/, "encode", other)
-            printf "%-22s %10.2f %12.2f %7.2f\n", key, ours[key], theirs[other], ours[key] / theirs[other]
+            print_row(key, ours[key], theirs[other])
+            if (("whole " key) in theirs) print_row("whole " key, ours[key], theirs["whole " key])
         }
     }' "$work/isal.txt" "$work/ours.txt"
