@@ -14,13 +14,14 @@ use Rattle.scenario_rules.specs.Numbers.{count, InRange, IsWithin}
 use Rattle.scenario_rules.specs.Places.{all_places}
 use Rattle.scenario_rules.specs.Rules.{IsNamedOf, row_names}
 use Rattle.scenario_rules.specs.declared.reading.NamedScenario.{NamedScenario}
-use Rattle.scenario_table.specs.Canonical.{draft_of, IsPlainTable, ReadsBack}
+use Rattle.scenario_table.specs.Canonical.{draft_of, IsPlainTable, ReadsBack, table_text}
 use Rattle.scenario_table.specs.Table.{all_given, table_of}
 use Rattle.scenario_table.specs.declared.draft.Draft.{Draft}
 use Rattle.scenario_table.specs.declared.draft.FileRow.{FileRow}
 use Rattle.whole_scenario.specs.Canonical.{all_actor_lines, canonical_text}
 use Rattle.whole_scenario.specs.declared.whole.Scenario.{Scenario}
 use Rattle.scenario_reader.specs.Answers.{SpellsScenario}
+use Rattle.scenario_reader.specs.Laws.{HasPlainText}
 use Rattle.scenario_reader.specs.Resolved.{scenario_of, scripts_in}
 use Rattle.scenario_reader.proofs.CanonicalLines.{actors_same, numbers_of, text_same, texts_told}
 use Rattle.scenario_reader.proofs.KeptRules.{all_inside, at_most, no_place_at}
@@ -139,8 +140,9 @@ draft_again d n is range =
     (ap (λ s. pos s.slots) is.shape ∙ counted 1 4096 d.slots range.slots)
     (ap (λ (w : ℕ). pos w) is.workers ∙ counted 1 16 d.workers range.workers)
 
-canonical_parsed : ReadsBack → (d : Draft) (n : NamedScenario) → IsNamedOf d n → parse_document (canonical_text (scenario_of n)) ≡ Some (table_of all_given d)
-canonical_parsed reads d n is =
+-- the canonical text is that of the draft
+canonical_table : (d : Draft) (n : NamedScenario) → IsNamedOf d n → canonical_text (scenario_of n) ≡ table_text (numbers_of (scenario_of n)) d.files d.actors
+canonical_table d n is =
     let range = in_range d n is in
     let names = file_names n.files in
     let jobs = started_in n.ops in
@@ -148,9 +150,27 @@ canonical_parsed reads d n is =
     let drives = counted_most 1 16 n.shape.drives d.drives range.drives (ap (λ s. s.drives) is.shape) in
     let texts = texts_told names jobs n.shape (all_places d.actors 1) n.ops (omega (arith, nodes)) (omega (arith, drives)) is.ops (all_declared d n is) (all_inside d n is) (all_built d n is) in
     let lines = ap (λ (k : ℕ). all_actor_lines names jobs (scripts_in names jobs n.ops 1 k)) is.actors ∙ actors_same names jobs d.actors 1 n.ops texts in
-    ap parse_document (text_same (scenario_of n) d.files d.actors is.files lines)
+    text_same (scenario_of n) d.files d.actors is.files lines
+
+canonical_parsed : ReadsBack → (d : Draft) (n : NamedScenario) → IsNamedOf d n → parse_document (canonical_text (scenario_of n)) ≡ Some (table_of all_given d)
+canonical_parsed reads d n is =
+    let range = in_range d n is in
+    ap parse_document (canonical_table d n is)
     ∙ reads (numbers_of (scenario_of n)) d.files d.actors (plain_table d n is range)
     ∙ ap (λ (e : Draft). Some (table_of all_given e)) (draft_again d n is range)
+
+pub canonical_plain : (text : List ℕ) (s : Scenario) → SpellsScenario text s → HasPlainText s
+canonical_plain text s spells =
+    let whole = spells.spells in
+    let d = whole.draft in
+    let n = spells.named in
+    record {
+      numbers = numbers_of (scenario_of n);
+      files = d.files;
+      actors = d.actors;
+      plain = plain_table d n whole.named (in_range d n whole.named);
+      is = ap canonical_text spells.is ∙ canonical_table d n whole.named;
+    }
 
 pub canonical_spells : ReadsBack → (text : List ℕ) (s : Scenario) → SpellsScenario text s → SpellsScenario (canonical_text s) s
 canonical_spells reads text s spells =

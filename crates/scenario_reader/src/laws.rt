@@ -1,6 +1,6 @@
 //! Laws of scenarios and their texts.
 
-ghost use Rattle.scenario_reader.specs.Laws.{CanonicalSpells, SpellsOne};
+ghost use Rattle.scenario_reader.specs.Laws.{CanonicalIsPlain, CanonicalSpells, SpellsOne};
 
 use scenario_table::canonical_reads_back;
 
@@ -16,3 +16,9 @@ pub fn canonical_text_spells()
 {
     canonical_reads_back();
 }
+
+/// The canonical text of a scenario that a text spells is that of a table of plain texts, so that no text in it has a line
+/// feed, a quote or a backslash.
+pub fn canonical_text_is_plain()
+    ensures { CanonicalIsPlain }
+{}

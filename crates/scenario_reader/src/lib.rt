@@ -8,5 +8,5 @@ mod op;
 mod reading;
 mod scripts;
 
-pub use laws::{canonical_text_spells, text_spells_one};
+pub use laws::{canonical_text_is_plain, canonical_text_spells, text_spells_one};
 pub use reading::read;
