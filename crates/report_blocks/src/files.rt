@@ -50,7 +50,7 @@ fn behind<'a>(text: &'a str, line: &str) -> Result<&'a str, Stop>
     }
 }
 
-/// The entries of the board and of each file, to the end of a report.
+/// The entries of the board and of each file, to the end of a report. `scratch` is written over.
 pub fn read_blocks(
     alloc: Global,
     scratch: &mut String,

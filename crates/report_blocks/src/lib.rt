@@ -7,7 +7,9 @@ mod files;
 mod stop;
 mod whole_report;
 
-pub use whole_report::{ReportFault, read_logs};
+pub use files::read_blocks;
+pub use stop::Stop;
+pub use whole_report::{ReportFault, line_at, read_logs};
 
 #[cfg(test)]
 mod tests;

@@ -59,7 +59,7 @@ fn behind_scenario<'a>(lines: &'a str, scenario: &str) -> Option<&'a str>
 }
 
 /// The number of the line in which the last `left` bytes begin.
-fn line_at(text: &str, left: usize) -> usize
+pub fn line_at(text: &str, left: usize) -> usize
     requires { left ≤ length text.now }
     ensures { (front : List ℕ) (tail : List ℕ) → text.now ≡ front ++ tail → left ≡ length tail → result ≡ suc (feeds front) }
 {

@@ -1,0 +1,4 @@
+pub mod ScenarioLines
+pub mod Printed
+pub mod WrongLine
+pub mod Laws
