@@ -1,7 +1,8 @@
 #!/usr/bin/env python3
 """Measures the built program on large inputs: prints for each its status, seconds, peak memory and bytes of output.
 
-With the word `texts` it measures the reader of scenarios instead, as `rt run` in crates/bench_scenario builds it.
+With the word `texts` it measures the reader of scenarios instead, as `rt run` in crates/bench_scenario builds it; with the
+word `reports` the reader and the printer of reports, as `rt run` in crates/bench_report builds them.
 """
 
 import os
@@ -47,6 +48,40 @@ def texts():
     yield "a million NULs", "\0" * 1_000_000, "toml 0 0"
 
 
+REPORT = "report 1\nunit = 8\nnodes = 3\ndrives = 2\nslots = 16\nworkers = 1\n" + '[[file]]\nname = "a"\nlevel = "2x"\n[[actor]]\nops = [\n"create a",\n]\n'
+ORDER = "1.{n} fail 1/1 nochange gone\n"
+WRITE = "1.{n} e3 write 1234 32 size 1266 old 1,2 new 3=4+2@2/1:1,3/1:1,1/1:1,2/2:0,3/2:0,1/2:0 4=1+1@2/1:1,1/1:1 inode 2=1+2@3/1:2,1/1:2,2/1:2\n"
+READ = "1.{n} e0 read 0 40 shown " + "68656c6c6f" * 8 + "\n"
+LONG = "1.{n} e0 read 0 4096 shown " + "68656c6c" * 1024 + "\n"
+
+
+def lines_of(line, size):
+    return [line.format(n=n) for n in range(1, size // len(line))]
+
+
+def board_report(lines):
+    return f"{REPORT}board {len(lines)}\n" + "".join(lines) + "engine 0\nfile a 0\nend\n"
+
+
+def file_report(lines):
+    return f"{REPORT}board 0\nengine 0\nfile a {len(lines)}\n" + "".join(lines) + "end\n"
+
+
+def reports():
+    """Large reports and hostile ones, and what each is answered."""
+    size = 100_000_000
+    yield "100 MB of orders", board_report(lines_of(ORDER, size)), "read"
+    yield "100 MB of writes", file_report(lines_of(WRITE, size)), "read"
+    yield "100 MB of reads of 40 bytes", file_report(lines_of(READ, size)), "read"
+    yield "100 MB of reads of 4 KiB", file_report(lines_of(LONG, size)), "read"
+    writes = lines_of(WRITE, size)
+    yield "100 MB of writes, the last line wrong", file_report(writes)[:-2], f"line {len(writes) + 17}"
+    yield "a scenario of 100 MB that is none", "report 1\n" + "nodes = [" * 11_111_111, "line 2"
+    yield "100 MB of line feeds", "report 1\n" + "\n" * size, "line 2"
+    yield "a line of 100 MB", file_report(["1.1 e0 read 0 40 shown " + "6" * (size + 1) + "\n"]), "line 17"
+    yield "a list of 50 million commas", file_report(["1.1 e0 write 0 5 size 5 old " + "," * (size // 2) + "\n"]), "line 17"
+
+
 def measured(arguments, source, output):
     start = time.monotonic()
     child = subprocess.Popen(arguments, stdin=source, stdout=output)
@@ -55,21 +90,40 @@ def measured(arguments, source, output):
     return f"status {os.waitstatus_to_exitcode(status)}, {seconds:.3f} s, {used.ru_maxrss / 1024:.1f} MiB, {os.fstat(output.fileno()).st_size} bytes"
 
 
+def answered(program, text, want):
+    """What the program costs on this text, and the first line of its answer."""
+    with tempfile.TemporaryFile() as source, tempfile.TemporaryFile() as answer:
+        source.write(text if isinstance(text, bytes) else text.encode())
+        source.seek(0)
+        told = measured([program], source, answer)
+        answer.seek(0)
+        line = answer.readline().decode().rstrip()
+    return f"{told}, {line if line == want else f'{line} IN PLACE OF {want}'}"
+
+
 def measure_texts():
     program = f"{TOP}/crates/bench_scenario/out/bench_scenario"
     for name, text, want in texts():
-        with tempfile.TemporaryFile() as source, tempfile.TemporaryFile() as answer:
-            source.write(text if isinstance(text, bytes) else text.encode())
-            source.seek(0)
-            told = measured([program], source, answer)
-            answer.seek(0)
-            line = answer.readline().decode().rstrip()
-        print(f"{name}: {told}, {line if line == want else f'{line} IN PLACE OF {want}'}")
+        print(f"{name}: {answered(program, text, want)}")
+
+
+def measure_reports():
+    program = f"{TOP}/crates/bench_report/out/bench_report"
+    for name, text, want in reports():
+        print(f"{name}: {answered(program, text, want)}")
+        if want == "read":
+            with tempfile.TemporaryFile() as source:
+                source.write(text.encode())
+                source.seek(0)
+                print("  " + subprocess.run([program, "time"], stdin=source, capture_output=True, text=True, check=False).stdout.rstrip())
 
 
 def main():
     if sys.argv[1:] == ["texts"]:
         measure_texts()
+        return 0
+    if sys.argv[1:] == ["reports"]:
+        measure_reports()
         return 0
     program = [f"{TOP}/bin/flex_sim", "run"]
     subprocess.run(program, input=b"", stdout=subprocess.DEVNULL, check=False)
