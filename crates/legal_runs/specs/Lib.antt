@@ -1,0 +1,4 @@
+pub mod Operations
+pub mod Entries
+pub mod Actors
+pub mod Verdicts
