@@ -1,0 +1,3 @@
+pub mod RackStates
+pub mod Returns
+pub mod FabricEnds
