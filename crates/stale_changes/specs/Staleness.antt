@@ -13,6 +13,7 @@ use Rattle.file_history.specs.declared.entry.FileEntry.{FileEntry}
 use Rattle.file_history.specs.declared.entry.FileEvent.{FileEvent}
 use Rattle.file_history.specs.declared.entry.FileEvent.TheVariants.{Created, Deleted, Written, Shown, LevelSet, Placed, Dead, Barred, Cleared, Marked, Refused}
 use Rattle.stale_changes.specs.declared.basis.Basis.{Basis}
+use Rattle.stale_changes.specs.declared.basis.KeptUnit.{KeptUnit}
 use Rattle.stale_changes.specs.declared.stale.Stale.{Stale}
 use Rattle.stale_changes.specs.declared.stale.Stale.TheVariants as stale
 
@@ -49,26 +50,31 @@ abbrev pub told_barred : Option Drive → ℕ → Option Stale
 told_barred None entry = None
 told_barred (Some d) entry = Some (stale.Barred d entry)
 
--- why the event of the entry with this number stands against a change that replaces the groups with the generations `old` and has
--- new units at these places, if it does
-abbrev pub cause_of : Basis → List ℕ → List Place → ℕ → FileEvent → Option Stale
-cause_of b old places entry (Created inode) = Some (stale.Presence entry)
-cause_of b old places entry Deleted = Some (stale.Presence entry)
-cause_of b old places entry (Written offset len size c) =
+-- the unit is one of these
+abbrev pub is_kept : List KeptUnit → ℕ → ℕ → Bool
+is_kept kept generation position = list_any (λ (u : KeptUnit). (u.generation == generation) && (u.position == position)) kept
+
+-- why the event of the entry with this number stands against a change that replaces the groups with the generations `old`, keeps
+-- these units of them, and has new units at these places, if it does
+abbrev pub cause_of : Basis → List ℕ → List KeptUnit → List Place → ℕ → FileEvent → Option Stale
+cause_of b old kept places entry (Created inode) = Some (stale.Presence entry)
+cause_of b old kept places entry Deleted = Some (stale.Presence entry)
+cause_of b old kept places entry (Written offset len size c) =
     first_cause (replaced_by old c.old entry)
     (end_moved (adds_units b && (not (units_for b.unit size == b.units) || has_generation b.last c.new)) entry)
-cause_of b old places entry (Shown offset len bytes) = None
-cause_of b old places entry (LevelSet level) = if same_level level b.level then None else Some (stale.Level entry)
-cause_of b old places entry (Placed job c) =
+cause_of b old kept places entry (Shown offset len bytes) = None
+cause_of b old kept places entry (LevelSet level) = if same_level level b.level then None else Some (stale.Level entry)
+cause_of b old kept places entry (Placed job c) =
     first_cause (replaced_by old c.old entry) (end_moved (adds_units b && has_generation b.last c.new) entry)
-cause_of b old places entry (Dead generation position) = None
-cause_of b old places entry (Barred job drives) = told_barred (drive_in places drives) entry
-cause_of b old places entry (Cleared job drives) = None
-cause_of b old places entry (Marked job count) = None
-cause_of b old places entry (Refused why) = None
+cause_of b old kept places entry (Dead generation position) =
+    if is_kept kept generation position then Some (stale.Dead generation position entry) else None
+cause_of b old kept places entry (Barred job drives) = told_barred (drive_in places drives) entry
+cause_of b old kept places entry (Cleared job drives) = None
+cause_of b old kept places entry (Marked job count) = None
+cause_of b old kept places entry (Refused why) = None
 
 -- why one of these entries, which stand behind `before` others, stands against the change: the first that does
-abbrev pub cause_in : List FileEntry → ℕ → Basis → List ℕ → List Place → Option Stale
-cause_in [] before b old places = None
-cause_in (e ∷ es) before b old places =
-    first_cause (cause_of b old places (before + 1) e.event) (cause_in es (before + 1) b old places)
+abbrev pub cause_in : List FileEntry → ℕ → Basis → List ℕ → List KeptUnit → List Place → Option Stale
+cause_in [] before b old kept places = None
+cause_in (e ∷ es) before b old kept places =
+    first_cause (cause_of b old kept places (before + 1) e.event) (cause_in es (before + 1) b old kept places)

@@ -6,7 +6,7 @@ ghost use Rattle.domains.specs.Level.{same_level};
 ghost use Rattle.domains.specs.declared.group.Group.{Group};
 ghost use Rattle.inode_codec.specs.Inode.{units_for};
 ghost use Rattle.file_history.specs.Layout.{is_among};
-ghost use Rattle.stale_changes.specs.Staleness.{adds_units, cause_in, cause_of, drive_in, end_moved, first_cause, has_generation, replaced_by};
+ghost use Rattle.stale_changes.specs.Staleness.{adds_units, cause_in, cause_of, drive_in, end_moved, first_cause, has_generation, is_kept, replaced_by};
 
 use crate::stale::Stale;
 use domains::{DriveId, DriveSet, Group, Level, Place};
@@ -24,34 +24,49 @@ pub struct Basis {
     pub end: u64,
 }
 
+/// A unit that a change keeps at its place, of the group with this generation.
+#[derive(Clone, Copy, Debug, PartialEq, Eq)]
+pub struct KeptUnit {
+    pub generation: u32,
+    pub position: u8,
+}
+
 impl Basis {
     /// Why one of these entries, which stand behind `before` others, stands against a change that replaces the groups with the
-    /// generations `old` and has new units at `places`: the first that does.
+    /// generations `old`, keeps the units `kept` of them, and has new units at `places`: the first that does.
     pub fn cause_in(
         &self,
         old: &[u32],
+        kept: &[KeptUnit],
         places: &[Place],
         before: u32,
         entries: &[FileEntry],
     ) -> Option<Stale>
         requires unit { 1 ≤ self.now.unit }
         requires few { before + length entries.now < 2 ^ 32 }
-        ensures { result ≡ cause_in entries.now before self.now old.now places.now }
+        ensures { result ≡ cause_in entries.now before self.now old.now kept.now places.now }
     {
         let [first, rest @ ..] = entries else {
             return None;
         };
-        let here = self.cause(old, places, before + 1, &first.event);
+        let here = self.cause(old, kept, places, before + 1, &first.event);
         if here.is_some() {
             return here;
         }
-        self.cause_in(old, places, before + 1, rest)
+        self.cause_in(old, kept, places, before + 1, rest)
     }
 
     /// Why the event of the entry with this number stands against the change, if it does.
-    fn cause(&self, old: &[u32], places: &[Place], entry: u32, event: &FileEvent) -> Option<Stale>
+    fn cause(
+        &self,
+        old: &[u32],
+        kept: &[KeptUnit],
+        places: &[Place],
+        entry: u32,
+        event: &FileEvent,
+    ) -> Option<Stale>
         requires unit { 1 ≤ self.now.unit }
-        ensures { result ≡ cause_of self.now old.now places.now entry event.now }
+        ensures { result ≡ cause_of self.now old.now kept.now places.now entry event.now }
     {
         match event {
             FileEvent::Created { .. } | FileEvent::Deleted => Some(Stale::Presence { entry }),
@@ -74,8 +89,20 @@ impl Basis {
                 }
                 Some(Stale::Level { entry })
             }
+            FileEvent::Dead {
+                generation,
+                position,
+            } => {
+                if !is_kept(kept, *generation, *position) {
+                    return None;
+                }
+                Some(Stale::Dead {
+                    generation: *generation,
+                    position: *position,
+                    entry,
+                })
+            }
             FileEvent::Shown { .. }
-            | FileEvent::Dead { .. }
             | FileEvent::Cleared { .. }
             | FileEvent::Marked { .. }
             | FileEvent::Refused(_) => None,
@@ -162,6 +189,17 @@ fn is_of(groups: &[Group], generation: u32) -> bool
         return false;
     };
     group.generation == generation || is_of(rest, generation)
+}
+
+/// Whether the unit is one of these.
+fn is_kept(kept: &[KeptUnit], generation: u32, position: u8) -> bool
+    ensures { result ≡ is_kept kept.now generation position }
+{
+    let [unit, rest @ ..] = kept else {
+        return false;
+    };
+    let here = unit.generation == generation && unit.position == position;
+    here || is_kept(rest, generation, position)
 }
 
 /// The first of these places' drives that is in the set.

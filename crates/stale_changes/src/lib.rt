@@ -5,6 +5,6 @@ mod basis;
 mod place_marks;
 mod stale;
 
-pub use basis::{Basis, is_among};
+pub use basis::{Basis, KeptUnit, is_among};
 pub use place_marks::PlaceMarks;
 pub use stale::Stale;
