@@ -9,7 +9,7 @@ use Rattle.file_history.specs.Layout.{Layout, group_list}
 use Rattle.file_history.specs.Stored.{inode_of}
 use Rattle.file_core.specs.FileInvariant.{is_there}
 use Rattle.file_core.specs.FileView.{FileView, IsFile, layout_of}
-use Rattle.file_core.specs.StoredGroups.{StoredGroup, SpellIn}
+use Rattle.striped_groups.specs.StoredGroups.{StoredGroup, SpellIn}
 
 root_valid : (unit : ℕ) (l : Layout) (inode : List StoredGroup) → map (λ (g : StoredGroup). g.group) inode ≡ group_list l.inode → l.present ≡ is_there l.inode
     → l.present ≡ true → AllByRecursion (λ (g : StoredGroup). SpellIn (inode_of unit l) g.contents) inode → IsInode (inode_of unit l)
