@@ -1,6 +1,5 @@
 -- The new groups of a write that was made ready on an earlier copy hold the same bytes then and now.
 use Rattle.std.proofs.Common.{◌≡◌, ℕ, ◌+◌, ◌-◌, ◌*◌, ◌/◌, ◌<◌, ◌≤◌, max, ◌⊎◌, inl, inr, List, [], ◌∷◌, ◌++◌, length, take, drop, refl, sym, ap, subst, ◌∙◌, arith}
-use Rattle.std.specs.List.{AllByRecursion}
 use Rattle.std.proofs.lemmas.Bool.{cases_lt}
 use Rattle.std.proofs.lemmas.Nat.{div-add-mod', mod_below}
 use Rattle.std.proofs.lemmas.List.{get_or_past, length-take}
@@ -103,7 +102,7 @@ by_slice old new first n unit i same from below =
 module _ (world : World) (log more : List NotedEntry) (earlier : ℕ) (w : ReadyWrite)
     (limits : IsWithinLimits world (log ++ more)) (legal : IsLegalLogWhere ⊥ world (log ++ more))
     (ready : IsReady (moment_at world earlier) log (layout_after world.level log) w)
-    (spares : AllByRecursion (λ (t : NotedEntry). Spares world.shape.unit (last_generation (layout_after world.level (log ++ more)).groups) w t.entry.event) more) where
+    (spares : Spares world.shape.unit (last_generation (layout_after world.level (log ++ more)).groups) w log more) where
   abbrev old_l : Layout
   old_l = layout_after world.level log
 

@@ -1,4 +1,5 @@
-mod SparedWrites
+mod ReachedUnits
+mod SparedChanges
 mod TestedRuns
 mod ContiguousRuns
 mod AffectedAgain
@@ -7,3 +8,6 @@ mod MadeWrites
 mod MadeNow
 mod KeptBytes
 mod WorkedCopies
+mod PlacedAgain
+mod MadePlaces
+mod WorkedPlaces

@@ -30,7 +30,7 @@ use Rattle.earlier_copies.proofs.NumberedGroups.{all_renumbered, are_numbered, n
 use Rattle.earlier_copies.proofs.MadeWrites.{affected_again, copies, first, many, new_units_by, replaced_count, run, run_none, spared_now, valid, valid_now}
 
 -- new places, of drives that are up and not barred
-are_new : (now : Moment) (was : Moment) (l old : Layout) (ss : List Place) → was.shape ≡ now.shape → AllByRecursion (IsNewPlace was old) ss
+pub are_new : (now : Moment) (was : Moment) (l old : Layout) (ss : List Place) → was.shape ≡ now.shape → AllByRecursion (IsNewPlace was old) ss
     → AllByRecursion (λ (s : Place). now.up s.drive ≡ true) ss → AllByRecursion (λ (s : Place). is_barred l s.drive ≡ false) ss
     → AllByRecursion (λ (s : Place). is_taken (all_groups l) s ≡ false) ss → AllByRecursion (IsNewPlace now l) ss
 are_new now was l old [] same were up unbarred free = tt
@@ -47,7 +47,7 @@ are_new now was l old (s ∷ ss) same were up unbarred free = (
 module _ (world : World) (log more : List NotedEntry) (earlier : ℕ) (w : ReadyWrite)
     (limits : IsWithinLimits world (log ++ more)) (legal : IsLegalLogWhere ⊥ world (log ++ more))
     (ready : IsReady (moment_at world earlier) log (layout_after world.level log) w)
-    (spares : AllByRecursion (λ (t : NotedEntry). Spares world.shape.unit (last_generation (layout_after world.level (log ++ more)).groups) w t.entry.event) more) where
+    (spares : Spares world.shape.unit (last_generation (layout_after world.level (log ++ more)).groups) w log more) where
   abbrev old_l : Layout
   old_l = layout_after world.level log
 

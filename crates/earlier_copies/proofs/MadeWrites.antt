@@ -1,8 +1,7 @@
 -- A write that was made ready on an earlier copy and is made now.
 use Rattle.std.proofs.Common.{◌≡◌, ℕ, ◌+◌, ◌-◌, ◌*◌, ◌/◌, ◌<◌, ◌≤◌, max, inl, inr, Bool, true, false, not, List, [], ◌∷◌, ◌++◌, length, take, drop, refl, sym, ap, subst, ◌∙◌, arith, length-append}
-use Rattle.std.specs.Prelude.{nat_le}
 use Rattle.std.specs.List.{AllByRecursion}
-use Rattle.std.proofs.lemmas.Bool.{and_parts, cases_lt, le-leb, true≢false}
+use Rattle.std.proofs.lemmas.Bool.{and_parts, cases_lt, false≢true, lt-ltb, true≢false}
 use Rattle.std.proofs.lemmas.Nat.{div-add-mod', mod_below, mul-le}
 use Rattle.std.proofs.lemmas.List.{drop_all, length-drop, length-map, length-take}
 use Rattle.domains.specs.Place.{Place}
@@ -25,8 +24,10 @@ use Rattle.map_laws.specs.MappedGroups.{IsMapped, StandsFrom}
 use Rattle.map_laws.proofs.StandingGroups.{stands-all, stands-among, stands-left, stands-right}
 use Rattle.map_laws.proofs.SoundFiles.{IsSound}
 use Rattle.map_laws.proofs.LaterLogs.{IsReached, later_log, legal_parts, sound_log, within_front}
-use Rattle.earlier_copies.specs.ReadyWrites.{IsReady, ReadyWrite, Spares, adds_units, last_generation, numbered}
-use Rattle.earlier_copies.proofs.SparedWrites.{IsSpared, spared}
+use Rattle.stale_changes.specs.Staleness.{adds_units}
+use Rattle.earlier_copies.specs.ReadyWrites.{IsReady, ReadyWrite, Spares, basis_of, last_generation, new_places, numbered}
+use Rattle.earlier_copies.proofs.SparedChanges.{IsSpared, spared}
+use Rattle.earlier_copies.proofs.ReachedUnits.{reached_units}
 use Rattle.earlier_copies.proofs.TestedRuns.{HaveUnits, last-is}
 use Rattle.earlier_copies.proofs.AffectedAgain.{AreCopies, again}
 use Rattle.earlier_copies.proofs.NumberedGroups.{numbered-places}
@@ -66,7 +67,7 @@ have_units : (gs : List Group) → AllByRecursion IsInodeGroup gs → HaveUnits 
 have_units gs all = All-then IsInodeGroup (λ (g : Group). 1 ≤ g.n) gs (λ g is. is.some_units) all
 
 -- a place that a write found usable is not barred
-free_of_bars : (now : Moment) (l : Layout) (ss : List Place) → AllByRecursion (IsNewPlace now l) ss → AllByRecursion (λ (s : Place). is_barred l s.drive ≡ false) ss
+pub free_of_bars : (now : Moment) (l : Layout) (ss : List Place) → AllByRecursion (IsNewPlace now l) ss → AllByRecursion (λ (s : Place). is_barred l s.drive ≡ false) ss
 free_of_bars now l [] all = tt
 free_of_bars now l (s ∷ ss) all = (not_true (is_barred l s.drive) (and_parts _ _ all.0.usable).1, free_of_bars now l ss all.1)
   where
@@ -108,7 +109,7 @@ replaced_count unit l offset len width first count old new is r =
 module _ (world : World) (log more : List NotedEntry) (earlier : ℕ) (w : ReadyWrite)
     (limits : IsWithinLimits world (log ++ more)) (legal : IsLegalLogWhere ⊥ world (log ++ more))
     (ready : IsReady (moment_at world earlier) log (layout_after world.level log) w)
-    (spares : AllByRecursion (λ (t : NotedEntry). Spares world.shape.unit (last_generation (layout_after world.level (log ++ more)).groups) w t.entry.event) more) where
+    (spares : Spares world.shape.unit (last_generation (layout_after world.level (log ++ more)).groups) w log more) where
   abbrev unit : ℕ
   unit = world.shape.unit
 
@@ -139,11 +140,12 @@ module _ (world : World) (log more : List NotedEntry) (earlier : ℕ) (w : Ready
   pub reach : IsReached world log (log ++ more)
   reach = later_log world log more limits legal
 
-  at_first : IsSpared world.shape.unit (last_generation (layout_after world.level (log ++ more)).groups) w (layout_after world.level log) (layout_after world.level log)
+  at_first : IsSpared (basis_of world.shape.unit (last_generation (layout_after world.level (log ++ more)).groups) w) w.old [] (new_places w) (layout_after world.level log) (layout_after world.level log)
   at_first = record {
     present = ready.legal.present;
     requested = refl;
-    kept = λ g first mapped among. mapped;
+    stays = λ g first mapped among. mapped;
+    alive = λ generation position keeps. absurd (false≢true keeps);
     grown = omega arith;
     units = λ adds. sym ready.units;
     end = λ adds n is g first mapped same. stands-all (λ (x : Group). x.generation < old_l.next) old_l.groups 0 g first sound.used mapped;
@@ -151,12 +153,12 @@ module _ (world : World) (log more : List NotedEntry) (earlier : ℕ) (w : Ready
         (free_of_bars (moment_at world earlier) old_l (places_of (numbered w.new old_l.next) ++ w.inode.places) ready.legal.places.each);
   }
 
-  pub spared_now : IsSpared world.shape.unit (last_generation (layout_after world.level (log ++ more)).groups) w (layout_after world.level log) (layout_after world.level (log ++ more))
+  pub spared_now : IsSpared (basis_of world.shape.unit (last_generation (layout_after world.level (log ++ more)).groups) w) w.old [] (new_places w) (layout_after world.level log) (layout_after world.level (log ++ more))
   spared_now =
       let most = limits.entries in
       let whole = length-append log more in
-      spared more world log (last_generation new_l.groups) w old_l limits.cluster limits.declared
-      (All-right (λ (t : NotedEntry). RequestsLevel t.entry.event) log more limits.levels) (omega (arith, most, whole)) ready.level sound
+      spared more world log (basis_of unit (last_generation new_l.groups) w) w.old [] (new_places w) old_l limits.cluster limits.declared
+      (All-right (λ (t : NotedEntry). RequestsLevel t.entry.event) log more limits.levels) (omega (arith, most, whole)) refl ready.level sound
       (legal_parts log more world [] legal).1 spares at_first
 
   pub valid : IsInode (inode_of world.shape.unit (layout_after world.level log))
@@ -184,8 +186,11 @@ module _ (world : World) (log more : List NotedEntry) (earlier : ℕ) (w : Ready
   pub starts : data_units (take first (layout_after world.level log).groups) ≤ w.offset / world.shape.unit
   starts = div-fits (data_units (take first old_l.groups)) w.offset unit wide run.starts
 
-  adds : u ≤ b → adds_units world.shape.unit w ≡ true
-  adds most = ap (λ (n : ℕ). nat_le n b) ready.units ∙ le-leb u b most
+  adds : u ≤ b → adds_units (basis_of world.shape.unit (last_generation (layout_after world.level (log ++ more)).groups) w) ≡ true
+  adds most =
+      let reach = reached_units unit w.offset len wide ready.some in
+      let had = ready.units in
+      lt-ltb w.units (units_for unit (w.offset + len)) (omega (arith, reach, had, most))
 
   pub copies : AreCopies (w.offset / world.shape.unit) (last_unit world.shape.unit w.offset (length w.payload)) ready.legal.width
       (units_for world.shape.unit (layout_after world.level log).size) (units_for world.shape.unit (layout_after world.level (log ++ more)).size)
@@ -205,7 +210,7 @@ module _ (world : World) (log more : List NotedEntry) (earlier : ℕ) (w : Ready
         drop_all (first + many) old_l.groups (omega (arith, end));
     is = run.run;
     kept = λ g f stands.
-        spared_now.kept g f
+        spared_now.stays g f
         (subst (λ (gs : List Group). IsMapped gs g f) (sym (in_three old_l.groups first many))
         (stands-right (take first old_l.groups) (take many (drop first old_l.groups) ++ drop (first + many) old_l.groups) 0 g f
         (stands-left (take many (drop first old_l.groups)) (drop (first + many) old_l.groups) (0 + data_units (take first old_l.groups)) g f

@@ -1,6 +1,5 @@
 -- A write that was made ready on an earlier copy.
 use Rattle.std.specs.Prelude.{◌≡◌, ℕ, ◌*◌, List, ◌++◌, take}
-use Rattle.std.specs.List.{AllByRecursion}
 use Rattle.inode_codec.specs.Inode.{data_units}
 use Rattle.file_history.specs.World.{World, moment_at}
 use Rattle.file_history.specs.Bytes.{bytes_after, overwrite}
@@ -18,7 +17,7 @@ EarlierWritesAreLegal =
     (world : World) (log more : List NotedEntry) (earlier epoch : ℕ) (w : ReadyWrite)
     → IsWithinLimits world (log ++ more) → IsLegalLogWhere ⊥ world (log ++ more)
     → (ready : IsReady (moment_at world earlier) log (layout_after world.level log) w)
-    → AllByRecursion (λ (t : NotedEntry). Spares world.shape.unit (last_generation (layout_after world.level (log ++ more)).groups) w t.entry.event) more
+    → Spares world.shape.unit (last_generation (layout_after world.level (log ++ more)).groups) w log more
     → MayBeMade (moment_at world epoch) (layout_after world.level (log ++ more)) w ready.legal.width
     → IsMade (moment_at world epoch) (log ++ more) (layout_after world.level (log ++ more)) w
 
@@ -36,6 +35,6 @@ EarlierWritesKeepBytes =
     (world : World) (log more : List NotedEntry) (earlier : ℕ) (w : ReadyWrite)
     → IsWithinLimits world (log ++ more) → IsLegalLogWhere ⊥ world (log ++ more)
     → IsReady (moment_at world earlier) log (layout_after world.level log) w
-    → AllByRecursion (λ (t : NotedEntry). Spares world.shape.unit (last_generation (layout_after world.level (log ++ more)).groups) w t.entry.event) more
+    → Spares world.shape.unit (last_generation (layout_after world.level (log ++ more)).groups) w log more
     → run_bytes world.shape.unit (layout_after world.level (log ++ more)) (bytes_after (log ++ more)) w
     ≡ run_bytes world.shape.unit (layout_after world.level log) (bytes_after log) w

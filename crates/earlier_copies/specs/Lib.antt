@@ -1,2 +1,4 @@
 pub mod ReadyWrites
 pub mod Laws
+pub mod ReadyPlaces
+pub mod PlaceLaws

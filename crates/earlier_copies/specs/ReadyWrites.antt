@@ -1,22 +1,21 @@
--- Writes that were made ready on a copy of a file, and the entries behind the copy that stand against them.
-use Rattle.std.specs.Prelude.{◌≡◌, ℕ, ◌+◌, ◌≤◌, ◌==◌, nat_le, Bool, true, false, List, [], ◌∷◌, ◌++◌, length, Option, None, Some}
-use Rattle.std.specs.List.{AllByRecursion, list_any}
-use Rattle.domains.specs.DriveSet.{has}
+-- Writes that were made ready on a copy of a file.
+use Rattle.std.specs.Prelude.{◌≡◌, ℕ, ◌+◌, ◌≤◌, true, List, [], ◌∷◌, ◌++◌, length, map, Option, None, Some}
+use Rattle.std.specs.List.{AllByRecursion}
 use Rattle.domains.specs.Place.{Place}
 use Rattle.domains.specs.Level.{Level}
 use Rattle.domains.specs.declared.group.Group.{Group}
 use Rattle.inode_codec.specs.Inode.{units_for}
 use Rattle.file_history.specs.World.{Moment}
 use Rattle.file_history.specs.Bytes.{bytes_after, overwrite}
-use Rattle.file_history.specs.Layout.{Layout, is_among, places_of}
+use Rattle.file_history.specs.Layout.{Layout, places_of}
 use Rattle.file_history.specs.Refusals.{MayWrite}
 use Rattle.file_history.specs.Step.{Writes}
 use Rattle.file_history.specs.declared.entry.Change.{Change}
-use Rattle.file_history.specs.declared.entry.FileEvent.{FileEvent}
-use Rattle.file_history.specs.declared.entry.FileEvent.TheVariants.{Created, Deleted, Written, Shown, LevelSet, Placed, Dead, Barred, Cleared, Marked, Refused}
+use Rattle.file_history.specs.declared.entry.FileEntry.{FileEntry}
 use Rattle.file_history.specs.declared.entry.NotedEntry.{NotedEntry}
 use Rattle.map_changes.specs.ChangedMaps.{AreFree}
-use Rattle.write_rule.specs.Runs.{last_unit}
+use Rattle.stale_changes.specs.Staleness.{cause_in}
+use Rattle.stale_changes.specs.declared.basis.Basis.{Basis}
 
 -- a write that was made ready: where it writes what, how many data units the file had then and which level it requested, which
 -- generations it replaces, and what it brings. The generations of what it brings are given when it is made
@@ -53,42 +52,22 @@ pub record IsReady (now : Moment) (log : List NotedEntry) (l : Layout) (w : Read
   pub level : w.level ≡ l.requested
   pub legal : IsMade now log l w
 
--- the write reaches a unit behind the last that the file had
-abbrev pub adds_units : ℕ → ReadyWrite → Bool
-adds_units unit w = nat_le w.units (last_unit unit w.offset (length w.payload))
-
--- none of the write's old generations is one of these
-abbrev pub AreLeft : List ℕ → List ℕ → Type 0
-AreLeft old gone = AllByRecursion (λ (n : ℕ). is_among gone n ≡ false) old
-
--- one of the groups has the generation
-abbrev pub has_generation : Option ℕ → List Group → Bool
-has_generation None groups = false
-has_generation (Some generation) groups = list_any (λ (g : Group). g.generation == generation) groups
-
 -- the generation of the last group
 abbrev pub last_generation : List Group → Option ℕ
 last_generation [] = None
 last_generation (g ∷ []) = Some g.generation
 last_generation (g ∷ h ∷ gs) = last_generation (h ∷ gs)
 
--- the event does not stand against the write, in a file with this stripe unit whose last group has this generation now: it creates
--- and deletes no file, requests no other level, takes away no group that the write replaces, and bars no drive on which it has a new
--- unit; and if the write adds units, the event changes their number no more than it places the group that is last now
-abbrev pub Spares : ℕ → Option ℕ → ReadyWrite → FileEvent → Type 0
-Spares unit last w (Created inode) = ⊥
-Spares unit last w Deleted = ⊥
-Spares unit last w (Written offset len size change) =
-    AreLeft w.old change.old
-    × (adds_units unit w ≡ true → (units_for unit size ≡ w.units) × (has_generation last change.new ≡ false))
-Spares unit last w (Shown offset len bytes) = Unit {0}
-Spares unit last w (LevelSet level) = level ≡ w.level
-Spares unit last w (Placed job change) = AreLeft w.old change.old × (adds_units unit w ≡ true → has_generation last change.new ≡ false)
-Spares unit last w (Dead generation position) = Unit {0}
-Spares unit last w (Barred job drives) = AllByRecursion (λ (s : Place). has drives s.drive ≡ false) (new_places w)
-Spares unit last w (Cleared job drives) = Unit {0}
-Spares unit last w (Marked job count) = Unit {0}
-Spares unit last w (Refused why) = Unit {0}
+-- what entries are compared with, in a file with this stripe unit whose last group has this generation now
+abbrev pub basis_of : ℕ → Option ℕ → ReadyWrite → Basis
+basis_of unit last w = record { unit = unit; last = last; units = w.units; level = w.level; end = w.offset + length w.payload }
+
+abbrev pub entries_of : List NotedEntry → List FileEntry
+entries_of log = map (λ (t : NotedEntry). t.entry) log
+
+-- none of the entries behind the log stands against the write, in such a file
+abbrev pub Spares : ℕ → Option ℕ → ReadyWrite → List NotedEntry → List NotedEntry → Type 0
+Spares unit last w log more = cause_in (entries_of more) (length log) (basis_of unit last w) w.old [] (new_places w) ≡ None
 
 -- what a caller tests before it makes the write: new groups have the width by which its groups were cut, the map has at most 256
 -- groups, the new units are on drives that are up, and no unit of the file stands at their places
