@@ -1,5 +1,5 @@
 -- What a test of new places knows of a file and its cluster.
-use Rattle.std.specs.Prelude.{◌≡◌, ℕ, nat_lt, Bool, ◌&&◌}
+use Rattle.std.specs.Prelude.{◌≡◌, ℕ, nat_lt, Bool, true, ◌&&◌}
 use Rattle.std.specs.BTreeSet.{BTreeSet}
 use Rattle.domains.specs.Drive.{Drive, IsDrive}
 use Rattle.domains.specs.DriveSet.{has}
@@ -15,6 +15,7 @@ use Rattle.stale_changes.specs.PlaceMarks.{is_marked}
 pub record IsUsableSet (shape : Shape) (usable : DriveSet) (now : Moment) (l : Layout) : Type 0 where
   pub cluster : now.shape ≡ shape
   pub each : (d : Drive) → IsDrive d → has usable d ≡ is_usable now l d
+  pub of_cluster : (d : Drive) → is_usable now l d ≡ true → is_of shape d ≡ true
 
 -- the places with a mark are those at which a unit of the layout stands
 abbrev pub AreTaken : BTreeSet ℕ → Layout → Type 0
