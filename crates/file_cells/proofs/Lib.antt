@@ -1,0 +1,2 @@
+pub mod FilesReturned
+pub mod NewFiles
