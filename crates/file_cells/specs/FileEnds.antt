@@ -4,7 +4,7 @@ use Rattle.std.specs.List.{flat_map}
 use Rattle.flex_io.specs.declared.fault.Fault.{Fault}
 use Rattle.flex_io.specs.declared.raw_place.RawPlace.{RawPlace}
 use Rattle.file_history.specs.declared.entry.FileEntry.{FileEntry}
-use Rattle.file_core.specs.StoredGroups.{GroupSlots}
+use Rattle.striped_groups.specs.StoredGroups.{GroupSlots}
 use Rattle.file_core.specs.StoredPlaces.{slots_of}
 use Rattle.returned_slots.specs.RackStates.{RackState}
 use Rattle.returned_slots.specs.Returns.{Returns}

@@ -1,7 +1,7 @@
 //! The slots of a file, which go back to the rack.
 
 ghost use Rattle.std.specs.Prelude.{◌++◌, reverse};
-ghost use Rattle.file_core.specs.StoredGroups.{list_of};
+ghost use Rattle.striped_groups.specs.StoredGroups.{list_of};
 ghost use Rattle.file_cells.specs.FileEnds.{slots_in};
 ghost use Rattle.returned_slots.specs.RackStates.{rack_state};
 ghost use Rattle.returned_slots.specs.Returns.{Returns};

@@ -15,7 +15,7 @@ use Rattle.file_history.specs.declared.entry.FileEvent.TheVariants.{Written}
 use Rattle.write_rule.specs.NewBytes.{padded_slice}
 use Rattle.map_changes.specs.ChangedMaps.{first_of, inode_with, spliced}
 use Rattle.stale_changes.specs.declared.stale.Stale.{Stale}
-use Rattle.stale_changes.specs.declared.stale.Stale.TheVariants.{Replaced, Barred, Level, Presence, Units as Moved, InodeSlot, NoMemory}
+use Rattle.stale_changes.specs.declared.stale.Stale.TheVariants.{Replaced, Dead, Barred, Level, Presence, Units as Moved, InodeSlot, NoMemory}
 use Rattle.striped_groups.specs.StoredGroups.{GroupSlots, HoldRun, stored_group}
 use Rattle.map_switches.specs.declared.change.Why.{Why}
 use Rattle.map_switches.specs.declared.change.Why.TheVariants.{Write}
@@ -139,6 +139,7 @@ module _ {S : Type 0} (faults : S → ℕ) where
   -- the slot at this position failed, or memory ran out
   abbrev pub IsFaultAt : S → S → ℕ → Stale → Type 0
   IsFaultAt old new at (Replaced generation entry) = ⊥
+  IsFaultAt old new at (Dead generation position entry) = ⊥
   IsFaultAt old new at (Barred drive entry) = ⊥
   IsFaultAt old new at (Level entry) = ⊥
   IsFaultAt old new at (Presence entry) = ⊥

@@ -1,7 +1,7 @@
 use Rattle.std.proofs.Common.{rules, ◌≡◌, ◌++◌, ◌∷◌, [], length, reverse, ap, sym, ◌∙◌, arith, length-append}
 use Rattle.std.specs.Prelude.{vec_capacity}
 use Rattle.std.proofs.lemmas.List.{append-nil, nil_from_length}
-use Rattle.file_core.specs.StoredGroups.{list_of}
+use Rattle.striped_groups.specs.StoredGroups.{list_of}
 use Rattle.file_core.specs.StoredPlaces.{slots_of}
 use Rattle.file_cells.specs.FileEnds.{logs_of_files, slots_in}
 use Rattle.file_cells.specs.OpenFiles.{state_of}
