@@ -48,6 +48,7 @@ def texts():
     yield "a million NULs", "\0" * 1_000_000, "toml 0 0"
 
 
+SIZE = 100_000_000
 REPORT = "report 1\nunit = 8\nnodes = 3\ndrives = 2\nslots = 16\nworkers = 1\n" + '[[file]]\nname = "a"\nlevel = "2x"\n[[actor]]\nops = [\n"create a",\n]\n'
 ORDER = "1.{n} fail 1/1 nochange gone\n"
 WRITE = "1.{n} e3 write 1234 32 size 1266 old 1,2 new 3=4+2@2/1:1,3/1:1,1/1:1,2/2:0,3/2:0,1/2:0 4=1+1@2/1:1,1/1:1 inode 2=1+2@3/1:2,1/1:2,2/1:2\n"
@@ -55,8 +56,12 @@ READ = "1.{n} e0 read 0 40 shown " + "68656c6c6f" * 8 + "\n"
 LONG = "1.{n} e0 read 0 4096 shown " + "68656c6c" * 1024 + "\n"
 
 
-def lines_of(line, size):
-    return [line.format(n=n) for n in range(1, size // len(line))]
+def lines_of(line):
+    return [line.format(n=n) for n in range(1, count_of(line) + 1)]
+
+
+def count_of(line):
+    return SIZE // len(line)
 
 
 def board_report(lines):
@@ -68,18 +73,16 @@ def file_report(lines):
 
 
 def reports():
-    """Large reports and hostile ones, and what each is answered."""
-    size = 100_000_000
-    yield "100 MB of orders", board_report(lines_of(ORDER, size)), "read"
-    yield "100 MB of writes", file_report(lines_of(WRITE, size)), "read"
-    yield "100 MB of reads of 40 bytes", file_report(lines_of(READ, size)), "read"
-    yield "100 MB of reads of 4 KiB", file_report(lines_of(LONG, size)), "read"
-    writes = lines_of(WRITE, size)
-    yield "100 MB of writes, the last line wrong", file_report(writes)[:-2], f"line {len(writes) + 17}"
-    yield "a scenario of 100 MB that is none", "report 1\n" + "nodes = [" * 11_111_111, "line 2"
-    yield "100 MB of line feeds", "report 1\n" + "\n" * size, "line 2"
-    yield "a line of 100 MB", file_report(["1.1 e0 read 0 40 shown " + "6" * (size + 1) + "\n"]), "line 17"
-    yield "a list of 50 million commas", file_report(["1.1 e0 write 0 5 size 5 old " + "," * (size // 2) + "\n"]), "line 17"
+    """Large reports and hostile ones, as functions that make them, and what each is answered."""
+    yield "100 MB of orders", lambda: board_report(lines_of(ORDER)), "read"
+    yield "100 MB of writes", lambda: file_report(lines_of(WRITE)), "read"
+    yield "100 MB of reads of 40 bytes", lambda: file_report(lines_of(READ)), "read"
+    yield "100 MB of reads of 4 KiB", lambda: file_report(lines_of(LONG)), "read"
+    yield "100 MB of writes, the last line wrong", lambda: file_report(lines_of(WRITE))[:-2], f"line {count_of(WRITE) + 17}"
+    yield "a scenario of 100 MB that is none", lambda: "report 1\n" + "nodes = [" * (SIZE // 9), "line 2"
+    yield "100 MB of line feeds", lambda: "report 1\n" + "\n" * SIZE, "line 2"
+    yield "a line of 100 MB", lambda: file_report(["1.1 e0 read 0 40 shown " + "6" * (SIZE + 1) + "\n"]), "line 17"
+    yield "a list of 50 million commas", lambda: file_report(["1.1 e0 write 0 5 size 5 old " + "," * (SIZE // 2) + "\n"]), "line 17"
 
 
 def measured(arguments, source, output):
@@ -90,10 +93,9 @@ def measured(arguments, source, output):
     return f"status {os.waitstatus_to_exitcode(status)}, {seconds:.3f} s, {used.ru_maxrss / 1024:.1f} MiB, {os.fstat(output.fileno()).st_size} bytes"
 
 
-def answered(program, text, want):
-    """What the program costs on this text, and the first line of its answer."""
-    with tempfile.TemporaryFile() as source, tempfile.TemporaryFile() as answer:
-        source.write(text if isinstance(text, bytes) else text.encode())
+def answered(program, source, want):
+    """What the program costs on this source, and the first line of its answer."""
+    with tempfile.TemporaryFile() as answer:
         source.seek(0)
         told = measured([program], source, answer)
         answer.seek(0)
@@ -104,16 +106,28 @@ def answered(program, text, want):
 def measure_texts():
     program = f"{TOP}/crates/bench_scenario/out/bench_scenario"
     for name, text, want in texts():
-        print(f"{name}: {answered(program, text, want)}")
+        with tempfile.TemporaryFile() as source:
+            source.write(text if isinstance(text, bytes) else text.encode())
+            print(f"{name}: {answered(program, source, want)}")
+
+
+def write_apart(source, make):
+    """Writes the text in a process of its own: what a parent holds counts as its children's peak of memory."""
+    child = os.fork()
+    if child == 0:
+        source.write(make().encode())
+        source.flush()
+        os._exit(0)
+    os.waitpid(child, 0)
 
 
 def measure_reports():
     program = f"{TOP}/crates/bench_report/out/bench_report"
-    for name, text, want in reports():
-        print(f"{name}: {answered(program, text, want)}")
-        if want == "read":
-            with tempfile.TemporaryFile() as source:
-                source.write(text.encode())
+    for name, make, want in reports():
+        with tempfile.TemporaryFile() as source:
+            write_apart(source, make)
+            print(f"{name}: {answered(program, source, want)}")
+            if want == "read":
                 source.seek(0)
                 print("  " + subprocess.run([program, "time"], stdin=source, capture_output=True, text=True, check=False).stdout.rstrip())
 
