@@ -1,0 +1,2 @@
+pub mod JoinedUnits
+pub mod ShownData

@@ -1,0 +1,8 @@
+//! The units of the groups that a write brings, from the old bytes at hand and the payload.
+#![tactic(auto)]
+
+mod built_units;
+mod old_data;
+
+pub use built_units::group_units;
+pub use old_data::{OldGroup, old_group};
