@@ -1,0 +1,5 @@
+//! Tests of `write_units` by its public calls. They stand apart, since a check of a crate with its tests proves the crate again.
+#![tactic(auto)]
+
+#[cfg(test)]
+mod tests;
