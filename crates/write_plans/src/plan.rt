@@ -67,6 +67,7 @@ pub fn plan_write<S: Slot + Send + Drop>(
     if !look.present {
         return Err(PlanRefusal::Absent);
     }
+    // A level that was read is one of the table, so a new group has a data unit.
     let _most = look.level.w();
     match width(&look.level, shape, usable) {
         Ok(most) => plan_of_width(alloc, file, shape, view, look, most, offset, len),
