@@ -1,0 +1,5 @@
+mod SlicedBytes
+mod TakenPlaces
+mod StoredSteps
+mod StoredLogs
+mod WorkedStored

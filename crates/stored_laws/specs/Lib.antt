@@ -1,0 +1,2 @@
+pub mod WrittenUnits
+pub mod Laws
