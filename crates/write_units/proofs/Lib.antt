@@ -1,2 +1,3 @@
 pub mod JoinedUnits
 pub mod ShownData
+pub mod RunRanges

@@ -1,1 +1,2 @@
 pub mod GroupUnits
+pub mod Laws

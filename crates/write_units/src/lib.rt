@@ -2,6 +2,7 @@
 #![tactic(auto)]
 
 mod built_units;
+pub mod laws;
 mod old_data;
 
 pub use built_units::group_units;
