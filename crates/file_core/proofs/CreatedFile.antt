@@ -109,6 +109,7 @@ KeepsSlots-created shape declared l old payload g new group places few distinct 
   distinct = subst AreDistinct (sym (append-nil g.places)) distinct;
   within = subst (AllByRecursion (IsPlaceOf shape)) (sym (append-nil g.places)) within;
   spelled = (spelled, tt);
+  used = tt;
   size = refl;
   zeros = 0;
   run = refl;
@@ -127,6 +128,7 @@ KeepsSlots-deleted shape declared l old payload = record {
   distinct = tt;
   within = tt;
   spelled = tt;
+  used = tt;
   size = refl;
   zeros = 0;
   run = refl;

@@ -98,6 +98,7 @@ KeepsSlots-quiet (LevelSet level) declared payload shape l bytes groups inode qu
   distinct = kept.distinct;
   within = kept.within;
   spelled = kept.spelled;
+  used = kept.used;
   size = kept.size;
   zeros = kept.zeros;
   run = kept.run;
@@ -115,6 +116,7 @@ KeepsSlots-quiet (Barred job drives) declared payload shape l bytes groups inode
   distinct = kept.distinct;
   within = kept.within;
   spelled = kept.spelled;
+  used = kept.used;
   size = kept.size;
   zeros = kept.zeros;
   run = kept.run;

@@ -13,3 +13,11 @@ pub mod StoredPlacesLemmas
 pub mod DeadUnitLookups
 pub mod SameDeadUnits
 pub mod ClearedGroups
+mod SwitchedFile
+mod ReadyChanges
+mod ReadyBounds
+mod ExchangedMaps
+mod SwitchedHead
+mod WrittenChanges
+mod PreparedChanges
+mod ExchangedFiles

@@ -1,5 +1,5 @@
 -- What holds of every file.
-use Rattle.std.specs.Prelude.{◌≡◌, ℕ, ◌*◌, ◌≤◌, Bool, true, false, List, [], ◌++◌, length, map, replicate, Option, Some, None}
+use Rattle.std.specs.Prelude.{◌≡◌, ℕ, ◌*◌, ◌<◌, ◌≤◌, Bool, true, false, List, [], ◌++◌, length, map, replicate, Option, Some, None}
 use Rattle.std.specs.List.{AllByRecursion}
 use Rattle.domains.specs.Drive.{Drive, IsDrive}
 use Rattle.domains.specs.DriveSet.{has}
@@ -39,6 +39,8 @@ pub record KeepsSlots (shape : Shape) (l : Layout) (bytes : List ℕ) (groups in
   pub distinct : AreDistinct (places_of (all_groups l))
   pub within : AllByRecursion (IsPlaceOf shape) (places_of (all_groups l))
   pub spelled : AllByRecursion (λ (g : StoredGroup). SpellIn (inode_of shape.unit l) g.contents) inode
+  -- the generations of the map were used before the next one
+  pub used : AllByRecursion (λ (g : Group). g.generation < l.next) l.groups
   pub size : l.size ≡ length bytes
   pub zeros : ℕ
   pub run : HoldRun groups (bytes ++ replicate zeros 0) shape.unit

@@ -11,3 +11,4 @@ pub mod Pulls
 pub mod PullAnswers
 pub mod StoredPlaces
 pub mod ClearFiles
+pub mod FileSwitches

@@ -14,13 +14,13 @@ ghost use Rattle.file_core.specs.FileView.{IsFile, IsLater, layout_of, with_note
 
 use crate::head::Head;
 use crate::state::FileState;
-use striped_groups::Stripe;
 use board::View;
 use domains::{By, DriveSet, Group, Place};
 use file_history::FileEvent;
 use flex_io::Slot;
 use group_levels::{is_at_level, is_inode_at};
 use job_rules::JobId;
+use striped_groups::Stripe;
 use thiserror::Error;
 
 /// The first group, by its position in the map, that is not at the requested level, has a dead unit or stands on a drive that is

@@ -6,13 +6,13 @@ ghost use Rattle.file_core.specs.FileView.{IsFile, IsLater, layout_of, with_note
 
 use crate::notes::Absent;
 use crate::state::FileState;
-use striped_groups::Stripe;
 use board::View;
 use domains::By;
 use file_history::{FileEvent, FileLog};
 use flex_io::Slot;
 use lists::List;
 use std::mem;
+use striped_groups::Stripe;
 
 /// What a deleted file gives back: the groups in map order, and the inode, each with its slots by position.
 pub struct DeletedSlots<S> {

@@ -66,6 +66,16 @@ impl Head {
         self.units = units;
     }
 
+    /// Takes in that the map was changed: the file has this size and this many units then, and the inode the requested level.
+    pub(crate) fn switch(&mut self, next: u32, size: u64, units: u32)
+        ensures { self.new ≡ record self.old { level = self.old.requested; next = next; size = size; units = units } }
+    {
+        self.level = self.requested;
+        self.next = next;
+        self.size = size;
+        self.units = units;
+    }
+
     /// Takes in an event that moves no unit.
     pub(crate) fn hear(&mut self, event: &FileEvent)
         requires { is_quiet event.now ≡ true }

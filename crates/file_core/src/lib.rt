@@ -19,13 +19,16 @@ mod pull;
 mod pull_groups;
 mod reading;
 mod state;
+mod switch;
 
 pub use chronicle::FileTerms;
 pub use clear::NotClear;
 pub use delete::{DeletedSlots, FileParts};
 pub use looks::Look;
+pub use map_switches::{Fresh, MapChange, Why};
 pub use noted::Noted;
 pub use notes::Absent;
 pub use pull::{Part, PullRefusal, Pulled, PulledGroup};
 pub use state::FileState;
 pub use striped_groups::Stripe;
+pub use switch::Switched;

@@ -10,9 +10,9 @@ ghost use Rattle.file_core.specs.Looks.{IsLook};
 ghost use Rattle.file_core.specs.FileView.{layout_of};
 
 use crate::state::FileState;
-use striped_groups::Stripe;
 use domains::{DriveSet, Group, Level};
 use flex_io::Slot;
+use striped_groups::Stripe;
 
 /// What a file is at one moment: whether it is there, its size in bytes, how many units and groups it holds, the requested level,
 /// of an absent file the declared one, the next generation, the inode's, which an absent file does not have, the barred drives,

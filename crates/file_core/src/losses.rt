@@ -10,8 +10,8 @@ ghost use Rattle.file_core.specs.PullAnswers.{first_cause, group_of, refusal_in,
 use crate::head::Head;
 use crate::live::Sight;
 use crate::pull::{Part, PullRefusal};
-use striped_groups::Stripe;
 use domains::{Group, Lost};
+use striped_groups::Stripe;
 
 /// Why nothing can be pulled of a file with this inode and these groups, but for want of memory.
 pub(crate) fn refusal<S>(

@@ -134,6 +134,13 @@ impl NoteLog {
         List::new(*self.entries.allocator())
     }
 
+    /// The entries so far.
+    pub(crate) fn entries(&self) -> &[FileEntry]
+        ensures { result.now ≡ map (λ n. n.entry.told.entry) self.now.notes }
+    {
+        &self.entries
+    }
+
     /// The entries.
     pub(crate) fn into_log(self) -> FileLog
         ensures { result ≡ map (λ n. n.entry.told.entry) self.notes }

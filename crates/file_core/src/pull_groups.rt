@@ -9,13 +9,13 @@ use crate::head::Head;
 use crate::live::Sight;
 use crate::pull::{Part, PulledGroup};
 use crate::reading::read_where;
-use striped_groups::Stripe;
 use domains::Group;
 use flex_io::{Slot, Steady};
 use held_slots::Held;
 use lists::List;
 use rs_codes::Have;
 use std::alloc::{AllocError, Global};
+use striped_groups::Stripe;
 
 /// Pulls the inode, and each of the groups that the part needs. At hand are these groups in map order, or the inode's.
 pub(crate) fn pull_all<S: Slot + Steady>(

@@ -6,12 +6,12 @@ ghost use Rattle.file_core.specs.FileView.{IsFile};
 
 use crate::head::Head;
 use crate::note_log::NoteLog;
-use striped_groups::Stripe;
 use board::Grow;
 use domains::{Level, Shape};
 use flex_io::Slot;
 use std::alloc::Global;
 use std::marker::Model;
+use striped_groups::Stripe;
 
 /// A file. Contracts see a `FileView`.
 pub struct FileState<S: Slot + Send + Drop> {

@@ -1,5 +1,5 @@
 -- Changes: their new places, and what comes back.
-use Rattle.std.proofs.Common.{◌≡◌, ℕ, ◌-◌, min, false, arith, List, [], ◌∷◌, ◌++◌, length, map, take, drop, None, inl, inr, refl, sym, ap, subst, ◌∙◌}
+use Rattle.std.proofs.Common.{◌≡◌, ℕ, ◌-◌, min, false, arith, List, [], ◌∷◌, ◌++◌, length, map, take, drop, Option, None, Some, inl, inr, refl, sym, ap, subst, ◌∙◌}
 use Rattle.std.specs.List.{AllByRecursion, list_any}
 use Rattle.std.specs.BTreeSet.{BTreeSet}
 use Rattle.std.proofs.lemmas.Bool.{cases_lt, or_from, or_parts}
@@ -18,6 +18,7 @@ use Rattle.map_changes.proofs.ChangedPlaces.{apart_all, places_of-append}
 use Rattle.stale_changes.specs.PlaceMarks.{AreMarked, is_marked}
 use Rattle.map_switches.specs.declared.change.MapChange.{MapChange}
 use Rattle.stale_changes.specs.declared.basis.Basis.{Basis}
+use Rattle.stale_changes.specs.declared.stale.Stale.{Stale}
 use Rattle.stale_changes.specs.declared.stale.Stale.TheVariants.{NoMemory}
 use Rattle.map_switches.specs.Switches.{IsRefusal, IsSlotFault, last_generation}
 
@@ -88,3 +89,8 @@ module _ {S : Type 0} (place_of : S → RawPlace) (faults : S → ℕ) where
 
   pub refused_same : (change : MapChange S) → IsRefusal place_of faults None change NoMemory change
   refused_same change = refused_memory change change.inode.slots refl
+
+  -- want of memory refuses a change that no entry or any entry stands against
+  pub refused_early : (cause : Option Stale) (change : MapChange S) → IsRefusal place_of faults cause change NoMemory change
+  refused_early None change = refused_same change
+  refused_early (Some cause) change = (inr refl, refl)

@@ -159,7 +159,7 @@ module _ {S : Type 0} (place_of : S → RawPlace) (faults : S → ℕ) where
     pub same : new ≡ record old { inode = record { group = old.inode.group; slots = new.inode.slots } }
     pub places : map place_of new.inode.slots ≡ map place_of old.inode.slots
 
-  -- a change is refused with this cause, if there is one; else a slot of the inode failed, or memory ran out
+  -- a change is refused with this cause, if there is one, or for want of memory; else a slot of the inode failed, or memory ran out
   abbrev pub IsRefusal : Option Stale → MapChange S → Stale → MapChange S → Type 0
-  IsRefusal (Some cause) old why new = (why ≡ cause) × (new ≡ old)
+  IsRefusal (Some cause) old why new = ((why ≡ cause) ⊎ (why ≡ NoMemory)) × (new ≡ old)
   IsRefusal None old why new = IsBack old new × IsSlotFault faults old.inode.slots new.inode.slots 0 why
