@@ -1,5 +1,5 @@
 -- What is made ready for a change, and the change when its inode was written.
-use Rattle.std.proofs.Common.{◌≡◌, ℕ, ◌+◌, ◌<◌, ◌≤◌, List, length, map, Option, sym, ap, subst, ◌∙◌}
+use Rattle.std.proofs.Common.{◌≡◌, ℕ, ◌+◌, ◌<◌, ◌≤◌, List, [], length, map, Option, sym, ap, subst, ◌∙◌}
 use Rattle.std.proofs.lemmas.List.{length-map}
 use Rattle.flex_io.specs.declared.raw_place.RawPlace.{RawPlace}
 use Rattle.board.specs.declared.board_view.View.{View}
@@ -26,9 +26,9 @@ use Rattle.file_core.proofs.ReadyBounds.{bounded}
 
 -- the cause at equal entries, bases, generations and places
 pub same_cause : (xs ys : List FileEntry) (at : ℕ) (b d : Basis) (old gone : List ℕ) (p q : List Place) → xs ≡ ys → b ≡ d → old ≡ gone → p ≡ q
-    → cause_in xs at b old p ≡ cause_in ys at d gone q
+    → cause_in xs at b old [] p ≡ cause_in ys at d gone [] q
 same_cause xs ys at b d old gone p q entries basis olds places =
-    ap (λ (x : List FileEntry × Basis × List ℕ × List Place). cause_in x.0 at x.1 x.2 x.3) (λ i. (entries i, basis i, olds i, places i))
+    ap (λ (x : List FileEntry × Basis × List ℕ × List Place). cause_in x.0 at x.1 x.2 [] x.3) (λ i. (entries i, basis i, olds i, places i))
 
 -- what is compared with, from its parts
 pub basis_from : (u v units e d : ℕ) (l k : Option ℕ) (level : Level) → u ≡ v → l ≡ k → e ≡ d

@@ -1,5 +1,5 @@
 -- The change of a file's map, as the file's state makes it.
-use Rattle.std.specs.Prelude.{◌≡◌, ℕ, ◌≤◌, List, length, map, take, drop, Option, None, Some}
+use Rattle.std.specs.Prelude.{◌≡◌, ℕ, ◌≤◌, List, [], length, map, take, drop, Option, None, Some}
 use Rattle.std.specs.List.{AllByRecursion}
 use Rattle.flex_io.specs.declared.raw_place.RawPlace.{RawPlace}
 use Rattle.board.specs.declared.board_view.View.{View}
@@ -41,7 +41,7 @@ module _ {S : Type 0} where
   -- why an entry behind the change's copy stands against it
   abbrev pub stale_by : FileView S → MapChange S → Option Stale
   stale_by f change =
-      cause_in (entries_since f.notes change.at) change.at (basis_of f change) change.old (new_places change)
+      cause_in (entries_since f.notes change.at) change.at (basis_of f change) change.old [] (new_places change)
 
   -- if no entry stands against the change, and its new units stand at free places, its entry is legal
   abbrev pub IsLegalIfFresh : FileView S → View → MapChange S → Type 0

@@ -91,7 +91,13 @@ impl<S: Slot + Send + Drop> FileState<S> {
         };
         let entries = self.log.entries();
         let at = (change.at as usize).min(entries.len());
-        basis.cause_in(change.old.as_slice(), places, change.at, &entries[at..])
+        basis.cause_in(
+            change.old.as_slice(),
+            &[],
+            places,
+            change.at,
+            &entries[at..],
+        )
     }
 
     /// That the new places are free: none comes twice, and no unit of the file stands at one.

@@ -6,7 +6,7 @@ use board_history::{BoardEntry, Effect, Order, State};
 use domains::{By, DriveId, Group, Level, Lost, Place, Shape, TooFew};
 use file_history::{Change, FileEntry, FileEvent, Refused};
 use lists::List;
-use report::{Logs, board_lines, file_lines, print};
+use report::{Logs, print, write_board_entry, write_file_entry};
 use scenario::{FileDecl, Name, Op, Scenario, Text};
 use std::alloc::{AllocError, Global};
 use std::test::Fail;
@@ -125,7 +125,9 @@ fn prints_losses(rt: HostRuntime) -> Result<(), Fail> {
         failure(1, 3, Effect::Changed),
         failure(2, 1, Effect::NoChange { is: State::Gone }),
     ];
-    board_lines::write_entries(&mut text, &board)?;
+    for entry in &board {
+        write_board_entry(&mut text, entry)?;
+    }
     assert_eq!(rt;
         text.as_str(),
         "1.3 fail 1/1 changed\n2.1 fail 1/1 nochange gone\n"
@@ -152,7 +154,9 @@ fn prints_refusals(rt: HostRuntime) -> Result<(), Fail> {
         entry(2, 0, FileEvent::Refused(absent)),
         entry(6, 2, FileEvent::Refused(lost)),
     ];
-    file_lines::write_entries(&mut text, Level::two_copies(), &log)?;
+    for entry in &log {
+        write_file_entry(&mut text, Level::two_copies(), entry)?;
+    }
     assert_eq!(rt;
         text.as_str(),
         "1.1 e0 create 2x refused toofew 1 2\n1.2 e0 write 0 5 refused absent\n1.6 e2 read 0 5 refused lost 2 0 1\n"
