@@ -19,7 +19,8 @@ use Rattle.file_history.specs.Step.{AreDistinct, IsNewPlace}
 use Rattle.file_history.specs.Stored.{IsRooted}
 use Rattle.file_history.specs.declared.entry.FileEvent.TheVariants.{Created, Deleted}
 use Rattle.striped_groups.specs.StoredGroups.{Content, StoredGroup, SpellIn}
-use Rattle.file_core.specs.FileInvariant.{KeepsSlots, is_there}
+use Rattle.file_core.specs.FileInvariant.{KeepsSlots}
+use Rattle.file_heads.specs.Heads.{is_there}
 use Rattle.striped_groups.specs.StoredGroups.{Took}
 use Rattle.file_core.specs.Creation.{empty_inode}
 

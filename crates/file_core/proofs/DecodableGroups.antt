@@ -15,13 +15,15 @@ use Rattle.rs_codes.specs.Units.{HeldUnits}
 use Rattle.file_history.specs.Layout.{Layout, Unit_, group_list}
 use Rattle.file_history.specs.Live.{Part}
 use Rattle.file_history.specs.Stored.{inode_of}
-use Rattle.file_core.specs.declared.pull.PullRefusal.{PullRefusal}
-use Rattle.file_core.specs.declared.pull.PullRefusal.TheVariants as refusal
-use Rattle.file_core.specs.declared.pull.PulledGroup.{PulledGroup}
+use Rattle.file_heads.specs.declared.part.PullRefusal.{PullRefusal}
+use Rattle.file_heads.specs.declared.part.PullRefusal.TheVariants as refusal
+use Rattle.pulled_groups.specs.declared.pull_groups.PulledGroup.{PulledGroup}
 use Rattle.striped_groups.specs.StoredGroups.{GroupSlots, SpellIn, StoredGroup, list_of, stored_group}
 use Rattle.file_core.specs.FileInvariant.{KeepsSlots}
-use Rattle.file_core.specs.Pulls.{AreAllPulled, ArePulled, AreRead, IsPulled, IsPulledIf, IsRead, IsRootPulled, count_live, first_live, first_of, is_asked, is_last, live_at, lost_from, lost_of, needs}
-use Rattle.file_core.specs.PullAnswers.{CanDecode, asks_inode, first_cause, group_of, refusal_in}
+use Rattle.pulled_groups.specs.Pulls.{AreAllPulled, ArePulled, AreRead, IsPulled, IsPulledIf, IsRead, IsRootPulled}
+use Rattle.file_heads.specs.Parts.{count_live, first_live, first_of, is_asked, is_last, live_at, lost_from, lost_of, needs}
+use Rattle.pulled_groups.specs.PullAnswers.{CanDecode, asks_inode}
+use Rattle.file_heads.specs.PullRefusals.{first_cause, group_of, refusal_in}
 use Rattle.file_core.proofs.GroupLookups.{groups_of}
 use Rattle.file_core.proofs.PulledSlots.{root_group}
 

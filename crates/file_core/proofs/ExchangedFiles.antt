@@ -11,10 +11,11 @@ use Rattle.turn_cell.specs.declared.chronicle.Note.{Note}
 use Rattle.file_core.specs.declared.noted.Noted.{Noted}
 use Rattle.map_switches.specs.declared.change.MapChange.{MapChange}
 use Rattle.map_switches.specs.declared.exchanged.Exchanged.{Exchanged}
-use Rattle.file_core.specs.declared.head.Head.{Head}
+use Rattle.file_heads.specs.declared.head.Head.{Head}
 use Rattle.map_switches.specs.declared.prepared.Prepared.{Prepared}
 use Rattle.striped_groups.specs.StoredGroups.{Took}
-use Rattle.file_core.specs.FileInvariant.{IsHead, KeepsFile}
+use Rattle.file_heads.specs.Heads.{IsHead}
+use Rattle.file_core.specs.FileInvariant.{KeepsFile}
 use Rattle.file_core.specs.FileView.{FileView, IsFile, IsLater, layout_of}
 use Rattle.file_core.specs.NoteLog.{NoteList, pushed}
 use Rattle.file_core.specs.Notes.{noted, told_of}

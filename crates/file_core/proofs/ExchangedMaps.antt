@@ -12,12 +12,12 @@ use Rattle.file_history.specs.declared.entry.FileEvent.{FileEvent}
 use Rattle.map_changes.specs.ChangedMaps.{first_of, spliced}
 use Rattle.map_switches.specs.declared.change.MapChange.{MapChange}
 use Rattle.map_switches.specs.declared.exchanged.Exchanged.{Exchanged}
-use Rattle.file_core.specs.declared.head.Head.{Head}
+use Rattle.file_heads.specs.declared.head.Head.{Head}
 use Rattle.map_switches.specs.declared.prepared.Prepared.{Prepared}
-use Rattle.file_core.specs.FileInvariant.{IsHead, is_there}
+use Rattle.file_heads.specs.Heads.{IsHead, is_there}
 use Rattle.file_core.specs.FileView.{FileView, IsFile, layout_of, with_note}
 use Rattle.file_core.specs.Notes.{noted}
-use Rattle.file_core.specs.PullAnswers.{group_of}
+use Rattle.file_heads.specs.PullRefusals.{group_of}
 use Rattle.striped_groups.specs.StoredGroups.{GroupSlots}
 use Rattle.map_switches.specs.Switches.{IsExchanged, brought, event_of, event_with, groups_of, inode_from, logged, size_after, stripes_from}
 use Rattle.file_core.specs.FileSwitches.{IsPrepared, IsReady, switched}

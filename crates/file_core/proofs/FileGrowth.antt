@@ -16,7 +16,7 @@ use Rattle.file_core.specs.declared.noted.Noted.{Noted}
 use Rattle.file_core.specs.Notes.{told_of, IsNotedStep, AreNotedSteps, last_epoch_of}
 use Rattle.striped_groups.specs.StoredGroups.{StoredGroup}
 use Rattle.file_core.specs.FileInvariant.{KeepsSlots, KeepsFile}
-use Rattle.file_core.specs.FileView.{is_quiet}
+use Rattle.file_heads.specs.Heads.{is_quiet}
 use Rattle.file_core.proofs.NoteLogLemmas.{last_epoch_of-push}
 
 pub told_of-push : (ns : List (Note Noted)) (n : Note Noted) → told_of (ns ++ n ∷ []) ≡ told_of ns ++ n.entry.told ∷ []

@@ -9,7 +9,8 @@ use Rattle.domains.specs.Shape.{Shape}
 use Rattle.domains.specs.declared.group.Group.{Group}
 use Rattle.file_history.specs.Layout.{Layout, all_groups, group_list}
 use Rattle.striped_groups.specs.StoredGroups.{GroupSlots, StoredGroup, SpellIn, stored_group, list_of}
-use Rattle.file_core.specs.FileInvariant.{KeepsSlots, is_there}
+use Rattle.file_core.specs.FileInvariant.{KeepsSlots}
+use Rattle.file_heads.specs.Heads.{is_there}
 use Rattle.std.specs.List.{AllByRecursion}
 use Rattle.std.proofs.lemmas.List.{length-map}
 use Rattle.domains.specs.Level.{Level}

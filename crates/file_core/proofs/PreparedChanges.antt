@@ -14,9 +14,9 @@ use Rattle.map_changes.proofs.InodeLengths.{inodes_fit_slots}
 use Rattle.stale_changes.specs.Staleness.{cause_in}
 use Rattle.stale_changes.specs.declared.basis.Basis.{Basis}
 use Rattle.map_switches.specs.declared.change.MapChange.{MapChange}
-use Rattle.file_core.specs.declared.head.Head.{Head}
+use Rattle.file_heads.specs.declared.head.Head.{Head}
 use Rattle.map_switches.specs.declared.prepared.Prepared.{Prepared}
-use Rattle.file_core.specs.FileInvariant.{IsHead}
+use Rattle.file_heads.specs.Heads.{IsHead}
 use Rattle.file_core.specs.FileView.{FileView, IsFile, layout_of}
 use Rattle.map_switches.specs.Switches.{IsBounded, IsMadeReady, brought, groups_of, numbered, size_after}
 use Rattle.file_core.specs.FileSwitches.{IsPrepared, IsReady, new_inode_of}

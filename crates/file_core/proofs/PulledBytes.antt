@@ -18,11 +18,13 @@ use Rattle.file_history.specs.Bytes.{slice_of}
 use Rattle.file_history.specs.Layout.{Layout, Unit_, group_list}
 use Rattle.file_history.specs.Live.{Part}
 use Rattle.file_history.specs.Stored.{inode_of}
-use Rattle.file_core.specs.declared.pull.PulledGroup.{PulledGroup}
+use Rattle.pulled_groups.specs.declared.pull_groups.PulledGroup.{PulledGroup}
 use Rattle.striped_groups.specs.StoredGroups.{AllTell, Content, GroupSlots, StoredGroup, HoldEach, HoldRun, HoldsUnits, stored_group, list_of}
 use Rattle.file_core.specs.FileInvariant.{KeepsSlots}
-use Rattle.file_core.specs.Pulls.{AreAllPulled, ArePulled, AreRead, IsPulled, IsPulledIf, IsRead, first_live, is_asked, is_last, live_at, needs}
-use Rattle.file_core.specs.PullAnswers.{ShowsGroup, ShowsInode, asks_inode, group_of}
+use Rattle.pulled_groups.specs.Pulls.{AreAllPulled, ArePulled, AreRead, IsPulled, IsPulledIf, IsRead}
+use Rattle.file_heads.specs.Parts.{first_live, is_asked, is_last, live_at, needs}
+use Rattle.pulled_groups.specs.PullAnswers.{ShowsGroup, ShowsInode, asks_inode}
+use Rattle.file_heads.specs.PullRefusals.{group_of}
 use Rattle.file_core.proofs.DecodableGroups.{All_push, none_begun}
 
 All_take : {A : Type 0} (P : A → Type 0) (n : ℕ) (xs : List A) → AllByRecursion P xs → AllByRecursion P (take n xs)

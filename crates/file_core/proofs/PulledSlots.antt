@@ -14,8 +14,8 @@ use Rattle.file_history.specs.declared.entry.NotedEntry.{NotedEntry}
 use Rattle.file_history.proofs.RootedLayouts.{layout_rooted}
 use Rattle.striped_groups.specs.StoredGroups.{GroupSlots, StoredGroup, SpellIn, StandsThere, stored_group, list_of}
 use Rattle.file_core.specs.FileInvariant.{KeepsSlots}
-use Rattle.file_core.specs.Pulls.{MayPull, MayPullRoot, first_len}
-use Rattle.file_core.specs.PullAnswers.{group_of}
+use Rattle.pulled_groups.specs.Pulls.{MayPull, MayPullRoot, first_len}
+use Rattle.file_heads.specs.PullRefusals.{group_of}
 
 module _ {S : Type 0} (place_of : S → RawPlace) (content : S → Option (List ℕ)) (len_of : S → ℕ) where
   abbrev stored : GroupSlots S → StoredGroup

@@ -28,7 +28,8 @@ use Rattle.map_changes.proofs.SplicedLists.{All-spliced, map-spliced}
 use Rattle.map_changes.proofs.ChangedPlaces.{All-of-places, All-places, changed_places_differ, places_of-append}
 use Rattle.map_changes.proofs.ChangedInodes.{changed_inodes_are_spelled, numbered_below, numbered_last}
 use Rattle.striped_groups.specs.StoredGroups.{Content, StoredGroup, HoldRun, SpellIn, StandsThere}
-use Rattle.file_core.specs.FileInvariant.{KeepsSlots, is_there}
+use Rattle.file_core.specs.FileInvariant.{KeepsSlots}
+use Rattle.file_heads.specs.Heads.{is_there}
 use Rattle.file_core.proofs.CreatedFile.{are_places}
 use Rattle.map_switches.proofs.HeldRuns.{HoldRun-spliced, mapped}
 

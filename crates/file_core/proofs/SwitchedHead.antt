@@ -9,9 +9,9 @@ use Rattle.file_history.specs.declared.entry.Change.{Change}
 use Rattle.map_changes.proofs.ChangedPlaces.{places_of-append}
 use Rattle.map_switches.specs.declared.change.Why.{Why}
 use Rattle.map_switches.specs.declared.change.Why.TheVariants.{Write}
-use Rattle.file_core.specs.declared.head.Head.{Head}
-use Rattle.file_core.specs.DeadUnits.{names}
-use Rattle.file_core.specs.FileInvariant.{IsHead}
+use Rattle.file_heads.specs.declared.head.Head.{Head}
+use Rattle.file_heads.specs.DeadUnits.{names}
+use Rattle.file_heads.specs.Heads.{IsHead}
 use Rattle.map_switches.specs.Switches.{event_of, size_after}
 
 all_units : (gs : List Group) (inode : Group) → length (places_of gs) + length inode.places ≡ length (places_of (gs ++ inode ∷ []))

@@ -1,8 +1,6 @@
 -- What holds of every file.
-use Rattle.std.specs.Prelude.{◌≡◌, ℕ, ◌*◌, ◌<◌, ◌≤◌, Bool, true, false, List, [], ◌++◌, length, map, replicate, Option, Some, None}
+use Rattle.std.specs.Prelude.{◌≡◌, ℕ, ◌*◌, ◌<◌, ◌≤◌, List, [], ◌++◌, length, map, replicate}
 use Rattle.std.specs.List.{AllByRecursion}
-use Rattle.domains.specs.Drive.{Drive, IsDrive}
-use Rattle.domains.specs.DriveSet.{has}
 use Rattle.domains.specs.Place.{IsPlaceOf}
 use Rattle.domains.specs.Shape.{Shape, IsShape}
 use Rattle.domains.specs.Level.{Level, IsLevel}
@@ -11,20 +9,13 @@ use Rattle.inode_codec.specs.Inode.{inode_bytes}
 use Rattle.turn_cell.specs.declared.chronicle.Note.{Note}
 use Rattle.file_history.specs.Bytes.{bytes_after}
 use Rattle.file_history.specs.Layout.{Layout, layout_after, group_list, all_groups, places_of}
-use Rattle.file_history.specs.Refusals.{is_barred}
 use Rattle.file_history.specs.Step.{AreDistinct}
 use Rattle.file_history.specs.Stored.{inode_of}
 use Rattle.file_history.specs.declared.entry.NotedEntry.{NotedEntry}
 use Rattle.file_core.specs.declared.noted.Noted.{Noted}
-use Rattle.file_core.specs.declared.head.Head.{Head}
-use Rattle.file_history.specs.Live.{is_dead}
-use Rattle.file_core.specs.DeadUnits.{names}
+use Rattle.file_heads.specs.Heads.{is_there}
 use Rattle.file_core.specs.Notes.{AreNotedSteps, last_epoch_of, told_of}
 use Rattle.striped_groups.specs.StoredGroups.{StoredGroup, StandsThere, HoldRun, SpellIn}
-
-abbrev pub is_there : Option Group → Bool
-is_there None = false
-is_there (Some g) = true
 
 -- the groups and the inode are those of the layout, their slots stand at its places, all different and of the cluster, and hold
 -- the bytes
@@ -57,13 +48,3 @@ pub record KeepsFile (known : Type 0) (shape : Shape) (level : Level) (room : �
   -- an entry uses at most 257 generations
   pub numbers : (layout_after level (told_of notes)).next ≤ 257 * length notes
   pub slots : KeepsSlots shape (layout_after level (told_of notes)) (bytes_after (told_of notes)) groups inode
-
--- the numbers that are kept beside the groups are those of the layout
-pub record IsHead (h : Head) (l : Layout) : Type 0 where
-  pub requested : h.requested ≡ l.requested
-  pub level : h.level ≡ l.level
-  pub size : h.size ≡ l.size
-  pub next : h.next ≡ l.next
-  pub units : h.units ≡ length (places_of (all_groups l))
-  pub dead : (generation position : ℕ) → names h.dead.items generation position ≡ is_dead l generation position
-  pub barred : (d : Drive) → IsDrive d → has h.barred d ≡ is_barred l d

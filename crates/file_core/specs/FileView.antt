@@ -1,5 +1,5 @@
 -- What contracts see of a file.
-use Rattle.std.specs.Prelude.{ℕ, ◌≤◌, ◌-◌, Bool, true, false, List, [], ◌∷◌, ◌++◌, map, Option}
+use Rattle.std.specs.Prelude.{ℕ, ◌≤◌, ◌-◌, List, [], ◌∷◌, ◌++◌, map, Option}
 use Rattle.flex_io.specs.declared.raw_place.RawPlace.{RawPlace}
 use Rattle.domains.specs.Shape.{Shape}
 use Rattle.domains.specs.Level.{Level}
@@ -8,8 +8,6 @@ use Rattle.turn_cell.specs.declared.chronicle.Note.{Note}
 use Rattle.file_history.specs.World.{Moment}
 use Rattle.file_history.specs.Bytes.{bytes_after}
 use Rattle.file_history.specs.Layout.{Layout, layout_after}
-use Rattle.file_history.specs.declared.entry.FileEvent.{FileEvent}
-use Rattle.file_history.specs.declared.entry.FileEvent.TheVariants.{Created, Deleted, Written, Shown, LevelSet, Placed, Dead, Barred, Cleared, Marked, Refused}
 use Rattle.file_history.specs.declared.entry.NotedEntry.{NotedEntry}
 use Rattle.file_core.specs.declared.noted.Noted.{Noted}
 use Rattle.file_core.specs.Notes.{kept_view, told_of, moment_of, last_epoch_of}
@@ -29,20 +27,6 @@ pub record FileView (S : Type 0) : Type 0 where
   pub groups : List (GroupSlots S)
   pub inode : Option (GroupSlots S)
   pub spare : ℕ
-
--- the event leaves the units and the dead ones as they are
-abbrev pub is_quiet : FileEvent → Bool
-is_quiet (Created inode) = false
-is_quiet Deleted = false
-is_quiet (Written offset len size change) = false
-is_quiet (Shown offset len bytes) = true
-is_quiet (LevelSet level) = true
-is_quiet (Placed job change) = false
-is_quiet (Dead generation position) = false
-is_quiet (Barred job drives) = true
-is_quiet (Cleared job drives) = true
-is_quiet (Marked job count) = true
-is_quiet (Refused why) = true
 
 module _ {S : Type 0} where
   abbrev pub log_of : FileView S → List NotedEntry

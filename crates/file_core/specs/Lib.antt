@@ -1,14 +1,10 @@
 pub mod Notes
 pub mod NoteLog
-pub mod DeadUnits
 pub mod FileInvariant
 pub mod FileView
 pub mod Looks
 pub mod Creation
 pub mod Accounts
 pub mod Examples
-pub mod Pulls
-pub mod PullAnswers
 pub mod StoredPlaces
-pub mod ClearFiles
 pub mod FileSwitches

@@ -9,7 +9,8 @@ ghost use Rattle.file_history.specs.Refusals.{IsLegalRefusal};
 ghost use Rattle.file_history.specs.Step.{Bars, IsEvent, ShowsBytes};
 ghost use Rattle.file_core.specs.Notes.{noted};
 ghost use Rattle.striped_groups.specs.StoredGroups.{AllTell};
-ghost use Rattle.file_core.specs.FileView.{IsFile, IsLater, bytes_of, is_quiet, layout_of, log_of, now_of, with_note};
+ghost use Rattle.file_core.specs.FileView.{IsFile, IsLater, bytes_of, layout_of, log_of, now_of, with_note};
+ghost use Rattle.file_heads.specs.Heads.{is_quiet};
 
 use crate::state::FileState;
 use board::View;

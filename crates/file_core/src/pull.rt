@@ -8,30 +8,19 @@ ghost use Rattle.file_history.specs.Live.{first_short};
 ghost use Rattle.striped_groups.specs.StoredGroups.{AllTell};
 ghost use Rattle.file_core.specs.FileView.{IsFile, bytes_of, layout_of, now_of, stored_groups, stored_inode};
 ghost use Rattle.file_core.specs.Looks.{IsLook};
-ghost use Rattle.file_core.specs.Pulls.{AreAllPulled, IsPart, part_of};
-ghost use Rattle.file_core.specs.PullAnswers.{CanDecode, ShowsGroup, ShowsInode, asks_inode, refusal_of, unknown_of};
+ghost use Rattle.pulled_groups.specs.Pulls.{AreAllPulled};
+ghost use Rattle.file_heads.specs.Parts.{IsPart, part_of};
+ghost use Rattle.pulled_groups.specs.PullAnswers.{CanDecode, ShowsGroup, ShowsInode, asks_inode};
+ghost use Rattle.file_heads.specs.PullRefusals.{refusal_of, unknown_of};
 
-use crate::live::Sight;
 use crate::looks::Look;
-use crate::losses::refusal;
-use crate::pull_groups::pull_all;
 use crate::state::FileState;
 use board::View;
-use domains::{Group, Lost};
+use file_heads::{Part, PullRefusal, Sight, refusal};
 use flex_io::{Slot, Steady};
 use lists::List;
-use rs_codes::Have;
+use pulled_groups::{PulledGroup, pull_all};
 use std::alloc::{AllocError, Global};
-use thiserror::Error;
-
-/// What is asked of a file: the bytes of a range; to write a range, where new groups have at most `n` data units; one group.
-/// Offsets and lengths are in bytes.
-#[derive(Clone, Copy, Debug, PartialEq, Eq)]
-pub enum Part {
-    Range { offset: u64, len: u64 },
-    Write { offset: u64, len: u64, n: u8 },
-    One { generation: u32 },
-}
 
 /// What a pull gives: what the file is, and each group that the part needs, in map order; if it asks for the inode's generation,
 /// the inode's group.
@@ -39,27 +28,6 @@ pub enum Part {
 pub struct Pulled {
     pub look: Look,
     pub groups: List<PulledGroup>,
-}
-
-/// A group, the first of its data units counted through the file, of the inode's 0, and its first n live units.
-#[derive(Drop)]
-pub struct PulledGroup {
-    pub group: Group,
-    pub start: u32,
-    pub have: Have,
-}
-
-/// Why nothing was pulled.
-#[derive(Clone, Copy, Debug, PartialEq, Eq, Error)]
-pub enum PullRefusal {
-    #[error("the file is absent")]
-    Absent,
-    #[error("no group has generation {generation}")]
-    Unknown { generation: u32 },
-    #[error("a group has too few live units")]
-    Lost(Lost),
-    #[error("out of memory")]
-    NoMemory,
 }
 
 impl<S: Slot + Steady + Send + Drop> FileState<S> {

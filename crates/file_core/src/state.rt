@@ -4,10 +4,10 @@ ghost use Rattle.std.specs.Prelude.{◌≡◌, ◌+◌, ◌<◌, ◌≤◌, ◌�
 ghost use Rattle.std.specs.Result.{IsErrOf};
 ghost use Rattle.file_core.specs.FileView.{IsFile};
 
-use crate::head::Head;
 use crate::note_log::NoteLog;
 use board::Grow;
 use domains::{Level, Shape};
+use file_heads::Head;
 use flex_io::Slot;
 use std::alloc::Global;
 use std::marker::Model;
@@ -32,7 +32,8 @@ impl<S: Slot + Send + Drop> Model for FileState<S> {
     ghost use Rattle.file_history.specs.Layout.{layout_after};
     ghost use Rattle.file_core.specs.Notes.{told_of};
     ghost use Rattle.striped_groups.specs.StoredGroups.{AllTell, list_of, stored_group};
-    ghost use Rattle.file_core.specs.FileInvariant.{IsHead, KeepsFile};
+    ghost use Rattle.file_heads.specs.Heads.{IsHead};
+    ghost use Rattle.file_core.specs.FileInvariant.{KeepsFile};
     ghost use Rattle.file_core.specs.FileView.{FileView};
 
     ghost Value = { FileView S };

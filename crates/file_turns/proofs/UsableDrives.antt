@@ -5,7 +5,7 @@ use Rattle.domains.specs.Drive.{Drive, IsDrive, same_drive}
 use Rattle.domains.specs.DriveSet.{has}
 use Rattle.domains.specs.declared.drive_set.DriveSet.{DriveSet}
 use Rattle.domains.proofs.DriveLemmas.{same_drive-eq}
-use Rattle.file_core.proofs.DriveSetUnion.{before-all, before-more, before-none, drive_at, is_before}
+use Rattle.file_heads.proofs.DriveSetUnion.{before-all, before-more, before-none, drive_at, is_before}
 
 -- a drive that is one of the set is removed
 pub removed_in : (old drives : DriveSet) (x d : Drive) → has drives x ≡ true → not (same_drive d x) && has old d ≡ has old d && not (has drives d && same_drive d x)

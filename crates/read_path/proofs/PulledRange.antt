@@ -15,11 +15,13 @@ use Rattle.file_history.specs.declared.entry.Refused.{Refused as Refusal}
 use Rattle.file_core.specs.FileView.{FileView, IsFile, bytes_of, layout_of, now_of, stored_groups, stored_inode, with_note}
 use Rattle.file_core.specs.Looks.{IsLook}
 use Rattle.file_core.specs.Notes.{noted}
-use Rattle.file_core.specs.Pulls.{AreAllPulled, is_asked}
-use Rattle.file_core.specs.PullAnswers.{CanDecode, ShowsGroup, asks_inode, unknown_of}
+use Rattle.pulled_groups.specs.Pulls.{AreAllPulled}
+use Rattle.file_heads.specs.Parts.{is_asked}
+use Rattle.pulled_groups.specs.PullAnswers.{CanDecode, ShowsGroup, asks_inode}
+use Rattle.file_heads.specs.PullRefusals.{unknown_of}
 use Rattle.striped_groups.specs.StoredGroups.{AllTell, GroupSlots}
-use Rattle.file_core.specs.declared.pull.PullRefusal.{PullRefusal}
-use Rattle.file_core.specs.declared.pull.PullRefusal.TheVariants as refusal
+use Rattle.file_heads.specs.declared.part.PullRefusal.{PullRefusal}
+use Rattle.file_heads.specs.declared.part.PullRefusal.TheVariants as refusal
 use Rattle.file_core.specs.declared.pull.Pulled.{Pulled}
 use Rattle.file_turns.specs.PathRoom.{with_room}
 use Rattle.file_turns.specs.Paths.{IsRefused}

@@ -16,9 +16,9 @@ use Rattle.file_history.specs.Layout.{Layout, Unit_}
 use Rattle.file_history.specs.Live.{holds_byte, range}
 use Rattle.file_history.specs.Stored.{inode_of}
 use Rattle.file_core.specs.FileView.{FileView, IsFile, bytes_of, layout_of}
-use Rattle.file_core.specs.Pulls.{AreAllPulled, ArePulled, IsPulledIf, IsRootPulled}
+use Rattle.pulled_groups.specs.Pulls.{AreAllPulled, ArePulled, IsPulledIf, IsRootPulled}
 use Rattle.striped_groups.specs.StoredGroups.{GroupSlots, SpellIn, StoredGroup, list_of, stored_group}
-use Rattle.file_core.specs.declared.pull.PulledGroup.{PulledGroup}
+use Rattle.pulled_groups.specs.declared.pull_groups.PulledGroup.{PulledGroup}
 use Rattle.file_core.proofs.GroupLookups.{groups_of}
 use Rattle.read_path.specs.Segments.{part_of_group, part_of_units, parts_of, segment}
 use Rattle.read_path.proofs.SegmentLemmas.{nothing}

@@ -5,8 +5,8 @@ use Rattle.std.proofs.lemmas.List.{get_or-take, take_all}
 use Rattle.galois.specs.Codeword.{unit_at}
 use Rattle.rs_codes.specs.Codes.{AreUnitsOf}
 use Rattle.rs_codes.specs.Units.{units_in}
-use Rattle.file_core.specs.PullAnswers.{ShowsGroup}
-use Rattle.file_core.specs.declared.pull.PulledGroup.{PulledGroup}
+use Rattle.pulled_groups.specs.PullAnswers.{ShowsGroup}
+use Rattle.pulled_groups.specs.declared.pull_groups.PulledGroup.{PulledGroup}
 use Rattle.read_path.specs.Segments.{part_of_group, part_of_units, parts_of, segment}
 use Rattle.read_path.proofs.SegmentLemmas.{join, piece, unit_among, unit_within}
 

@@ -5,11 +5,11 @@ use Rattle.board.specs.declared.board_view.View.{View}
 use Rattle.flex_io.specs.declared.raw_place.RawPlace.{RawPlace}
 use Rattle.file_history.specs.Live.{IsReadable, first_short, range}
 use Rattle.file_core.specs.FileView.{FileView, bytes_of, layout_of, now_of, stored_groups, stored_inode}
-use Rattle.file_core.specs.Pulls.{AreAllPulled}
-use Rattle.file_core.specs.PullAnswers.{CanDecode, ShowsGroup}
+use Rattle.pulled_groups.specs.Pulls.{AreAllPulled}
+use Rattle.pulled_groups.specs.PullAnswers.{CanDecode, ShowsGroup}
 use Rattle.striped_groups.specs.StoredGroups.{AllTell}
-use Rattle.file_core.specs.declared.pull.PullRefusal.{PullRefusal}
-use Rattle.file_core.specs.declared.pull.PullRefusal.TheVariants.{Absent, Unknown, Lost, NoMemory}
+use Rattle.file_heads.specs.declared.part.PullRefusal.{PullRefusal}
+use Rattle.file_heads.specs.declared.part.PullRefusal.TheVariants.{Absent, Unknown, Lost, NoMemory}
 use Rattle.file_core.specs.declared.pull.Pulled.{Pulled}
 use Rattle.read_path.specs.Reads.{ReadsAtMost}
 

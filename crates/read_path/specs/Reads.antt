@@ -12,9 +12,9 @@ use Rattle.file_history.specs.declared.entry.FileEvent.TheVariants.{Shown}
 use Rattle.file_history.specs.declared.entry.Refused.TheVariants.{ReadAbsent, ReadLost}
 use Rattle.file_core.specs.FileView.{FileView, bytes_of, layout_of, now_of, stored_groups, stored_inode, with_note}
 use Rattle.file_core.specs.Notes.{last_epoch_of, noted}
-use Rattle.file_core.specs.Pulls.{AreAllPulled}
+use Rattle.pulled_groups.specs.Pulls.{AreAllPulled}
 use Rattle.striped_groups.specs.StoredGroups.{AllTell}
-use Rattle.file_core.specs.declared.pull.PulledGroup.{PulledGroup}
+use Rattle.pulled_groups.specs.declared.pull_groups.PulledGroup.{PulledGroup}
 use Rattle.file_turns.specs.PathRoom.{entries_of_path, with_room}
 use Rattle.file_turns.specs.Paths.{Begins, IsFull, IsRefused, SeesBoard}
 use Rattle.read_path.specs.declared.reading.ReadRefusal.{ReadRefusal}

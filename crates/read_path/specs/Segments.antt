@@ -1,7 +1,7 @@
 -- Parts of the bytes of a file.
 use Rattle.std.specs.Prelude.{ℕ, ◌+◌, ◌-◌, ◌*◌, List, take, drop, min, max}
 use Rattle.std.specs.List.{flat_map}
-use Rattle.file_core.specs.declared.pull.PulledGroup.{PulledGroup}
+use Rattle.pulled_groups.specs.declared.pull_groups.PulledGroup.{PulledGroup}
 
 -- the bytes from `low` on, up to `high`
 abbrev pub segment : List ℕ → ℕ → ℕ → List ℕ

@@ -5,7 +5,7 @@ ghost use Rattle.std.specs.List.{AllByRecursion};
 ghost use Rattle.galois.specs.Codeword.{unit_at};
 ghost use Rattle.rs_codes.specs.Codes.{AreUnitsOf};
 ghost use Rattle.rs_codes.specs.Units.{units_in};
-ghost use Rattle.file_core.specs.PullAnswers.{CanDecode, ShowsGroup};
+ghost use Rattle.pulled_groups.specs.PullAnswers.{CanDecode, ShowsGroup};
 ghost use Rattle.read_path.specs.Segments.{parts_of, part_of_group, part_of_units};
 
 use crate::byte_range::ByteRange;

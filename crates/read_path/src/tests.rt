@@ -2,7 +2,7 @@
 
 ghost use Rattle.std.specs.Prelude.{◌≡◌, ◌≤◌, IfOk};
 ghost use Rattle.fabric.specs.Views.{IsHandOf, fabric_view, number_of};
-ghost use Rattle.file_core.specs.PullAnswers.{CanDecode};
+ghost use Rattle.pulled_groups.specs.PullAnswers.{CanDecode};
 
 use crate::decoding::bytes_shown;
 use crate::{ReadRefusal, read};

@@ -18,7 +18,7 @@ use Rattle.file_history.specs.declared.entry.Refused.{Refused as Refusal}
 use Rattle.file_history.specs.declared.entry.Refused.TheVariants.{CreateExists, CreateNoRoom, CreateTooFew}
 use Rattle.file_core.specs.Accounts.{units_at}
 use Rattle.file_core.specs.Creation.{created_on, inode_group}
-use Rattle.file_core.specs.FileInvariant.{is_there}
+use Rattle.file_heads.specs.Heads.{is_there}
 use Rattle.file_core.specs.FileView.{FileView, IsFile, layout_of, log_of}
 use Rattle.file_core.specs.Notes.{noted}
 use Rattle.placement_order.specs.Order.{DrawRequest}

@@ -7,7 +7,7 @@ use Rattle.domains.specs.declared.group.Group.{Group}
 use Rattle.inode_codec.specs.Inode.{IsInode}
 use Rattle.file_history.specs.Layout.{Layout, group_list}
 use Rattle.file_history.specs.Stored.{inode_of}
-use Rattle.file_core.specs.FileInvariant.{is_there}
+use Rattle.file_heads.specs.Heads.{is_there}
 use Rattle.file_core.specs.FileView.{FileView, IsFile, layout_of}
 use Rattle.striped_groups.specs.StoredGroups.{StoredGroup, SpellIn}
 

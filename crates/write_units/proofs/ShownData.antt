@@ -3,8 +3,8 @@ use Rattle.std.proofs.Common.{◌≡◌, zero, suc, ◌∷◌, ℕ, ◌+◌, ◌
 use Rattle.std.specs.List.{AllByRecursion, flat_map}
 use Rattle.std.proofs.Math.Nat.{zero-mul}
 use Rattle.std.proofs.lemmas.List.{ext_get_or, get_or-take, get_or-drop}
-use Rattle.file_core.specs.PullAnswers.{ShowsGroup}
-use Rattle.file_core.specs.declared.pull.PulledGroup.{PulledGroup}
+use Rattle.pulled_groups.specs.PullAnswers.{ShowsGroup}
+use Rattle.pulled_groups.specs.declared.pull_groups.PulledGroup.{PulledGroup}
 use Rattle.rs_codes.specs.Units.{units_in}
 use Rattle.write_rule.specs.NewBytes.{padded_slice}
 use Rattle.write_rule.proofs.NewBytesByPlace.{at, padded_at, slice_at, slice_length}

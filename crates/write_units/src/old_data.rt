@@ -1,7 +1,7 @@
 //! The old bytes of a group that was pulled.
 
 ghost use Rattle.std.specs.Prelude.{◌≡◌, ◌*◌, ◌≤◌, List, ℕ, IfOk, length};
-ghost use Rattle.file_core.specs.PullAnswers.{CanDecode, ShowsGroup};
+ghost use Rattle.pulled_groups.specs.PullAnswers.{CanDecode, ShowsGroup};
 ghost use Rattle.write_rule.specs.NewBytes.{IsPartOf};
 ghost use Rattle.write_units.specs.GroupUnits.{IsOldGroup};
 

@@ -1,7 +1,7 @@
 use Rattle.std.proofs.Common.{◌≡◌, ◌∙◌, ◌&&◌, not, ℕ, Bool, ap, arith, rules}
 use Rattle.domains.specs.Drive.{Drive, same_drive}
 use Rattle.domains.specs.DriveSet.{has}
-use Rattle.file_core.proofs.DriveSetUnion.{drive_at}
+use Rattle.file_heads.proofs.DriveSetUnion.{drive_at}
 use Rattle.file_turns.proofs.UsableDrives.{removed_before, removed-all, removed-more, removed-none}
 use Rattle.file_turns.proofs.usable.usable_drives.Goals as goal
 

@@ -1,6 +1,6 @@
 use Rattle.std.proofs.Common.{◌∙◌, sym, subst, arith}
 use Rattle.std.specs.List.{AllByRecursion}
-use Rattle.file_core.specs.PullAnswers.{ShowsGroup}
+use Rattle.pulled_groups.specs.PullAnswers.{ShowsGroup}
 use Rattle.read_path.specs.Segments.{parts_of}
 use Rattle.read_path.proofs.decoding.bytes_shown.Goals as goal
 

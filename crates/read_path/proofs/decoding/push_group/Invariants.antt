@@ -1,5 +1,5 @@
 use Rattle.std.proofs.Common.{◌≡◌, ℕ, ◌+◌, ◌≤◌, ◌++◌, List, length}
-use Rattle.file_core.specs.PullAnswers.{ShowsGroup}
+use Rattle.pulled_groups.specs.PullAnswers.{ShowsGroup}
 use Rattle.read_path.specs.Segments.{part_of_units}
 use Rattle.read_path.proofs.decoding.push_group.Given as goal
 

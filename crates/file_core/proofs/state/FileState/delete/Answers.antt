@@ -7,7 +7,8 @@ use Rattle.file_core.specs.declared.noted.Noted.{Noted}
 use Rattle.file_core.specs.Notes.{told_of, noted}
 use Rattle.file_core.specs.NoteLog.{NoteList}
 use Rattle.striped_groups.specs.StoredGroups.{AllTell, GroupSlots, stored_group, list_of}
-use Rattle.file_core.specs.FileInvariant.{KeepsFile, IsHead, is_there}
+use Rattle.file_core.specs.FileInvariant.{KeepsFile}
+use Rattle.file_heads.specs.Heads.{IsHead, is_there}
 use Rattle.file_core.specs.FileView.{FileView, IsLater}
 use Rattle.file_core.proofs.FileGrowth.{KeepsFile-note, layout_after-note, epochs_up_to}
 use Rattle.file_core.proofs.GroupLookups.{root_there}

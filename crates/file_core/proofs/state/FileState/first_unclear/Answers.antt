@@ -11,8 +11,8 @@ use Rattle.file_history.proofs.RootedLayouts.{layout_rooted}
 use Rattle.file_core.specs.Notes.{told_of}
 use Rattle.striped_groups.specs.StoredGroups.{GroupSlots, stored_group, list_of}
 use Rattle.file_core.specs.FileView.{FileView, layout_of}
-use Rattle.file_core.specs.ClearFiles.{AnswersFirst, IsFirstUnclear}
-use Rattle.file_core.proofs.ClearedGroups.{clears_if, first_unclear_is, if_clears, if_some}
+use Rattle.file_heads.specs.ClearFiles.{AnswersFirst, IsFirstUnclear}
+use Rattle.file_heads.proofs.ClearedGroups.{clears_if, first_unclear_is, if_clears, if_some}
 use Rattle.file_core.proofs.GroupLookups.{few_groups, groups_of}
 use Rattle.file_core.proofs.PulledSlots.{few_places, root_group}
 use Rattle.file_core.proofs.state.FileState.first_unclear.Given.{Over}

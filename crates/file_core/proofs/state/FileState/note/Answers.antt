@@ -6,7 +6,8 @@ use Rattle.file_core.specs.declared.noted.Noted.{Noted}
 use Rattle.file_core.specs.Notes.{told_of, noted}
 use Rattle.file_core.specs.NoteLog.{NoteList}
 use Rattle.striped_groups.specs.StoredGroups.{AllTell, stored_group, list_of}
-use Rattle.file_core.specs.FileInvariant.{KeepsFile, IsHead}
+use Rattle.file_core.specs.FileInvariant.{KeepsFile}
+use Rattle.file_heads.specs.Heads.{IsHead}
 use Rattle.file_core.specs.FileView.{FileView, IsLater, now_of, log_of, layout_of}
 use Rattle.file_core.proofs.FileGrowth.{KeepsFile-note, KeepsSlots-quiet, next-quiet, layout_after-note, epochs_up_to}
 use Rattle.file_core.proofs.state.FileState.note.Given.{Over}

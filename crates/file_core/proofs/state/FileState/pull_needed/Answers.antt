@@ -6,17 +6,19 @@ use Rattle.inode_codec.specs.Inode.{inode_bytes}
 use Rattle.file_history.specs.Bytes.{bytes_after}
 use Rattle.file_history.specs.Layout.{Layout, layout_after}
 use Rattle.file_history.specs.Stored.{inode_of}
-use Rattle.file_core.specs.declared.pull.PulledGroup.{PulledGroup}
+use Rattle.pulled_groups.specs.declared.pull_groups.PulledGroup.{PulledGroup}
 use Rattle.file_core.specs.Notes.{told_of}
 use Rattle.striped_groups.specs.StoredGroups.{AllTell, GroupSlots, StoredGroup, stored_group, list_of}
 use Rattle.file_core.specs.FileView.{FileView, bytes_of, layout_of, now_of}
-use Rattle.file_core.specs.Pulls.{AreAllPulled, MayPull, part_of}
-use Rattle.file_core.specs.PullAnswers.{CanDecode, ShowsGroup, ShowsInode, asks_inode, group_of, refusal_of}
+use Rattle.pulled_groups.specs.Pulls.{AreAllPulled, MayPull}
+use Rattle.file_heads.specs.Parts.{part_of}
+use Rattle.pulled_groups.specs.PullAnswers.{CanDecode, ShowsGroup, ShowsInode, asks_inode}
+use Rattle.file_heads.specs.PullRefusals.{group_of, refusal_of}
 use Rattle.file_core.proofs.GroupLookups.{few_groups}
 use Rattle.file_core.proofs.DecodableGroups.{decodes_data}
-use Rattle.file_core.proofs.PullCauses.{refusal_is}
+use Rattle.file_heads.proofs.PullCauses.{refusal_is}
 use Rattle.file_core.proofs.PulledBytes.{shows_data, shows_inode}
-use Rattle.file_core.proofs.SameDeadUnits.{all_same}
+use Rattle.pulled_groups.proofs.SameDeadUnits.{all_same}
 use Rattle.file_core.proofs.PulledSlots.{may_pull, may_pull_root, root_group, small_size}
 use Rattle.file_core.proofs.state.FileState.pull_needed.Given.{Over}
 use Rattle.file_core.proofs.state.FileState.pull_needed.Goals as goal

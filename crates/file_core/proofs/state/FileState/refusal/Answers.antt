@@ -5,11 +5,11 @@ use Rattle.file_history.specs.Layout.{layout_after}
 use Rattle.file_core.specs.Notes.{told_of}
 use Rattle.striped_groups.specs.StoredGroups.{GroupSlots, stored_group, list_of}
 use Rattle.file_core.specs.FileView.{FileView, layout_of, now_of}
-use Rattle.file_core.specs.Pulls.{part_of}
-use Rattle.file_core.specs.PullAnswers.{group_of, refusal_in, refusal_of}
+use Rattle.file_heads.specs.Parts.{part_of}
+use Rattle.file_heads.specs.PullRefusals.{group_of, refusal_in, refusal_of}
 use Rattle.file_core.proofs.GroupLookups.{few_groups, groups_of}
-use Rattle.file_core.proofs.PullCauses.{refusal_is}
-use Rattle.file_core.proofs.SameDeadUnits.{refusal_same}
+use Rattle.file_heads.proofs.PullCauses.{refusal_is}
+use Rattle.pulled_groups.proofs.SameDeadUnits.{refusal_same}
 use Rattle.file_core.proofs.PulledSlots.{few_places, root_group, small_size}
 use Rattle.file_core.proofs.state.FileState.refusal.Goals as goal
 

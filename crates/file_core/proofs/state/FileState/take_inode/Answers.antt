@@ -15,7 +15,8 @@ use Rattle.file_core.specs.declared.noted.Noted.{Noted}
 use Rattle.file_core.specs.Notes.{told_of, noted}
 use Rattle.file_core.specs.NoteLog.{NoteList}
 use Rattle.striped_groups.specs.StoredGroups.{AllTell, GroupSlots, StoredGroup, stored_group, list_of}
-use Rattle.file_core.specs.FileInvariant.{KeepsFile, IsHead}
+use Rattle.file_core.specs.FileInvariant.{KeepsFile}
+use Rattle.file_heads.specs.Heads.{IsHead}
 use Rattle.file_core.specs.FileView.{FileView, IsLater, layout_of, now_of}
 use Rattle.striped_groups.specs.StoredGroups.{Took}
 use Rattle.file_core.specs.Creation.{empty_inode}

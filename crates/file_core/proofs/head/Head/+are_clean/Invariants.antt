@@ -1,5 +1,0 @@
-use Rattle.std.proofs.Common.{length}
-use Rattle.file_core.proofs.head.Head.+are_clean.Given as goal
-
-abbrev pub decreases-are_clean : goal.decreases-are_clean
-decreases-are_clean l = length l.places.now

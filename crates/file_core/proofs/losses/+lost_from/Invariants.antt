@@ -1,5 +1,0 @@
-use Rattle.std.proofs.Common.{length}
-use Rattle.file_core.proofs.losses.+lost_from.Given as goal
-
-abbrev pub decreases-lost_from : goal.decreases-lost_from
-decreases-lost_from g l = length l.stripes.now

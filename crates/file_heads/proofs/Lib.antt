@@ -1,0 +1,4 @@
+pub mod DriveSetUnion
+pub mod DeadUnitLookups
+pub mod PullCauses
+pub mod ClearedGroups

@@ -1,0 +1,5 @@
+pub mod DeadUnits
+pub mod Heads
+pub mod Parts
+pub mod PullRefusals
+pub mod ClearFiles
