@@ -1,3 +1,8 @@
-pub mod JoinedUnits
-pub mod ShownData
-pub mod RunRanges
+mod JoinedUnits
+mod ShownData
+mod RunRanges
+mod GroupsAt
+mod CoveredRuns
+mod RunBytes
+mod OldGroups
+pub mod PulledSpans

@@ -1,9 +1,10 @@
 //! The old bytes of a group that was pulled.
 
-ghost use Rattle.std.specs.Prelude.{◌≡◌, ◌*◌, ◌≤◌, List, ℕ, IfOk, length};
+ghost use Rattle.std.specs.Prelude.{◌≡◌, ◌+◌, ◌*◌, ◌≤◌, ◌++◌, List, ℕ, IfOk, OnOk, length};
+ghost use Rattle.std.specs.List.{AllByRecursion};
 ghost use Rattle.pulled_groups.specs.PullAnswers.{CanDecode, ShowsGroup};
 ghost use Rattle.write_rule.specs.NewBytes.{IsPartOf};
-ghost use Rattle.write_units.specs.GroupUnits.{IsOldGroup};
+ghost use Rattle.write_units.specs.GroupUnits.{IsOfUnits, IsOldGroup, pulled_spans, spans_of};
 
 use file_core::PulledGroup;
 use groups::data_of;
@@ -34,7 +35,51 @@ pub fn old_group(alloc: Global, pulled: &PulledGroup) -> Result<OldGroup, AllocE
     })
 }
 
+/// The data of groups that were pulled, in their order.
+pub fn old_groups(
+    alloc: Global,
+    unit: u32,
+    pulled: &[PulledGroup],
+) -> Result<Vec<OldGroup>, AllocError>
+    requires { AllByRecursion (CanDecode unit) pulled.now }
+    ensures spans { IfOk result (λ old. spans_of old.items ≡ pulled_spans pulled.now) }
+    ensures units { IfOk result (λ old. AllByRecursion (IsOfUnits unit) old.items) }
+    ensures shown { IfOk result (λ old. (bytes : List ℕ) → AllByRecursion (ShowsGroup unit bytes) pulled.now → AllByRecursion (IsOldGroup bytes) old.items) }
+{
+    let mut old = Vec::new(alloc);
+    push_groups(alloc, unit, pulled, &mut old)?;
+    Ok(old)
+}
+
+/// Puts the data of these groups behind others.
+fn push_groups(
+    alloc: Global,
+    unit: u32,
+    pulled: &[PulledGroup],
+    old: &mut Vec<OldGroup>,
+) -> Result<(), AllocError>
+    requires decodes { AllByRecursion (CanDecode unit) pulled.now }
+    requires units { AllByRecursion (IsOfUnits unit) old.old.items }
+    ensures spans { OnOk result (spans_of old.new.items ≡ spans_of old.old.items ++ pulled_spans pulled.now) }
+    ensures units { OnOk result (AllByRecursion (IsOfUnits unit) old.new.items) }
+    ensures shown { OnOk result ((bytes : List ℕ) → AllByRecursion (ShowsGroup unit bytes) pulled.now → AllByRecursion (IsOldGroup bytes) old.old.items
+        → AllByRecursion (IsOldGroup bytes) old.new.items) }
+{
+    let [first, rest @ ..] = pulled else {
+        return Ok(());
+    };
+    old.push(old_group(alloc, first)?)?;
+    push_groups(alloc, unit, rest, old)
+}
+
 impl OldGroup {
+    /// The data unit behind its last.
+    pub(crate) fn stop(&self) -> u64
+        ensures { result ≡ self.now.start + length self.now.units.units }
+    {
+        u64::from(self.start) + u64::from(self.units.count())
+    }
+
     /// Its bytes, as a part of the file.
     pub fn bytes(&self) -> OldBytes<'_>
         requires wide { self.now.units.unit_length ≤ 131072 }
