@@ -3,10 +3,9 @@
 ghost use Rattle.std.specs.Prelude.{◌≡◌, ◌++◌, string_bytes, OnOk};
 ghost use Rattle.report.specs.BoardLines.{state_text, effect_text, order_text, board_line, board_lines};
 
-use crate::words::{write_by, write_drive};
+use crate::words::{write_by, write_drive, write_number};
 use board_history::{BoardEntry, Effect, Order, State};
 use std::alloc::AllocError;
-use std::fmt::Write;
 
 pub(crate) fn write_entries(text: &mut String, log: &[BoardEntry]) -> Result<(), AllocError>
     ensures { OnOk result (string_bytes text.new ≡ string_bytes text.old ++ board_lines log.now) }
@@ -23,11 +22,11 @@ pub fn write_board_entry(text: &mut String, entry: &BoardEntry) -> Result<(), Al
     ensures { OnOk result (string_bytes text.new ≡ string_bytes text.old ++ board_line entry.now) }
 {
     write_by(text, entry.by)?;
-    write!(text, " ")?;
+    text.push(' ')?;
     write_order(text, entry.order)?;
-    write!(text, " ")?;
+    text.push(' ')?;
     write_effect(text, entry.effect)?;
-    write!(text, "\n")
+    text.push('\n')
 }
 
 #[tactic(auto, unfolding(crate::specs::BoardLines::order_text))]
@@ -36,16 +35,19 @@ fn write_order(text: &mut String, order: Order) -> Result<(), AllocError>
 {
     match order {
         Order::Fail(drive) => {
-            write!(text, "fail ")?;
+            text.push_str("fail ")?;
             write_drive(text, drive)
         }
-        Order::FailNode(node) => write!(text, "failnode {}", node.number()),
+        Order::FailNode(node) => {
+            text.push_str("failnode ")?;
+            write_number(text, u64::from(node.number()))
+        }
         Order::Down(drive) => {
-            write!(text, "down ")?;
+            text.push_str("down ")?;
             write_drive(text, drive)
         }
         Order::Up(drive) => {
-            write!(text, "up ")?;
+            text.push_str("up ")?;
             write_drive(text, drive)
         }
     }
@@ -56,8 +58,11 @@ fn write_effect(text: &mut String, effect: Effect) -> Result<(), AllocError>
     ensures { OnOk result (string_bytes text.new ≡ string_bytes text.old ++ effect_text effect) }
 {
     match effect {
-        Effect::Changed => write!(text, "changed"),
-        Effect::NoChange { is } => write!(text, "nochange {}", state_text(is)),
+        Effect::Changed => text.push_str("changed"),
+        Effect::NoChange { is } => {
+            text.push_str("nochange ")?;
+            text.push_str(state_text(is))
+        }
     }
 }
 

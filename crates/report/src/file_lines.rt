@@ -1,14 +1,15 @@
 //! The lines of a file's log (docs/FORMATS.md, "Report").
 
 ghost use Rattle.std.specs.Prelude.{◌≡◌, ◌++◌, string_bytes, OnOk};
-ghost use Rattle.report.specs.FileLines.{change_text, refused_text, event_text, file_line, file_lines};
+ghost use Rattle.report.specs.FileLines.{change_text, create_text, event_text, file_line, file_lines, range_text, refused_text};
 ghost use Rattle.report.specs.RefusedParts.{operation_text, reason_text};
 
-use crate::words::{write_by, write_bytes, write_drives, write_group, write_groups, write_numbers};
+use crate::words::{
+    write_by, write_bytes, write_drives, write_group, write_groups, write_number, write_numbers,
+};
 use domains::Level;
 use file_history::{Change, FileEntry, FileEvent, Refused};
 use std::alloc::AllocError;
-use std::fmt::Write;
 
 /// Adds the entries of a file that was declared with this level.
 pub(crate) fn write_entries(
@@ -34,40 +35,54 @@ pub fn write_file_entry(
     ensures { OnOk result (string_bytes text.new ≡ string_bytes text.old ++ file_line declared entry.now) }
 {
     write_by(text, entry.by)?;
-    write!(text, " e{} ", entry.epoch)?;
+    text.push_str(" e")?;
+    write_number(text, u64::from(entry.epoch))?;
+    text.push(' ')?;
     write_event(text, declared, &entry.event)?;
-    write!(text, "\n")
+    text.push('\n')
 }
 
 /// Adds what was done. What jobs do has no line until jobs are built.
-#[tactic(auto, unfolding(crate::specs::FileLines::event_text, crate::specs::FileLines::create_text, crate::specs::FileLines::range_text))]
+#[tactic(auto, unfolding(crate::specs::FileLines::event_text))]
 fn write_event(text: &mut String, declared: Level, event: &FileEvent) -> Result<(), AllocError>
     ensures { OnOk result (string_bytes text.new ≡ string_bytes text.old ++ event_text declared event.now) }
 {
     match event {
         FileEvent::Created { inode } => {
-            write!(text, "create {} inode ", declared.name())?;
+            write_create(text, declared)?;
+            text.push_str(" inode ")?;
             write_group(text, inode)
         }
-        FileEvent::Deleted => write!(text, "delete"),
+        FileEvent::Deleted => text.push_str("delete"),
         FileEvent::Written {
             offset,
             len,
             size,
             change,
         } => {
-            write!(text, "write {offset} {len} size {size}")?;
+            write_range(text, "write", *offset, *len)?;
+            text.push_str(" size ")?;
+            write_number(text, *size)?;
             write_change(text, change)
         }
         FileEvent::Shown { offset, len, bytes } => {
-            write!(text, "read {offset} {len} shown ")?;
+            write_range(text, "read", *offset, *len)?;
+            text.push_str(" shown ")?;
             write_bytes(text, bytes.as_slice())
         }
-        FileEvent::LevelSet { level } => write!(text, "level {}", level.name()),
+        FileEvent::LevelSet { level } => {
+            text.push_str("level ")?;
+            text.push_str(level.name())
+        }
         FileEvent::Dead {
             generation,
             position,
-        } => write!(text, "dead {generation} {position}"),
+        } => {
+            text.push_str("dead ")?;
+            write_number(text, u64::from(*generation))?;
+            text.push(' ')?;
+            write_number(text, u64::from(*position))
+        }
         FileEvent::Placed { .. }
         | FileEvent::Barred { .. }
         | FileEvent::Cleared { .. }
@@ -76,15 +91,35 @@ fn write_event(text: &mut String, declared: Level, event: &FileEvent) -> Result<
     }
 }
 
+#[tactic(auto, unfolding(crate::specs::FileLines::create_text))]
+fn write_create(text: &mut String, declared: Level) -> Result<(), AllocError>
+    ensures { OnOk result (string_bytes text.new ≡ string_bytes text.old ++ create_text declared) }
+{
+    text.push_str("create ")?;
+    text.push_str(declared.name())
+}
+
+/// Adds an operation on a range, by its word.
+#[tactic(auto, unfolding(crate::specs::FileLines::range_text))]
+fn write_range(text: &mut String, word: &str, offset: u64, len: u32) -> Result<(), AllocError>
+    ensures { OnOk result (string_bytes text.new ≡ string_bytes text.old ++ range_text word.now offset len) }
+{
+    text.push_str(word)?;
+    text.push(' ')?;
+    write_number(text, offset)?;
+    text.push(' ')?;
+    write_number(text, u64::from(len))
+}
+
 #[tactic(auto, unfolding(crate::specs::FileLines::change_text))]
 fn write_change(text: &mut String, change: &Change) -> Result<(), AllocError>
     ensures { OnOk result (string_bytes text.new ≡ string_bytes text.old ++ change_text change.now) }
 {
-    write!(text, " old ")?;
+    text.push_str(" old ")?;
     write_numbers(text, change.old.as_slice())?;
-    write!(text, " new ")?;
+    text.push_str(" new ")?;
     write_groups(text, change.new.as_slice())?;
-    write!(text, " inode ")?;
+    text.push_str(" inode ")?;
     write_group(text, &change.inode)
 }
 
@@ -92,11 +127,11 @@ fn write_refused(text: &mut String, declared: Level, refused: &Refused) -> Resul
     ensures { OnOk result (string_bytes text.new ≡ string_bytes text.old ++ refused_text declared refused.now) }
 {
     write_refused_operation(text, declared, refused)?;
-    write!(text, " refused ")?;
+    text.push_str(" refused ")?;
     write_reason(text, refused)
 }
 
-#[tactic(auto, unfolding(crate::specs::RefusedParts::operation_text, crate::specs::FileLines::create_text, crate::specs::FileLines::range_text))]
+#[tactic(auto, unfolding(crate::specs::RefusedParts::operation_text))]
 fn write_refused_operation(
     text: &mut String,
     declared: Level,
@@ -106,18 +141,21 @@ fn write_refused_operation(
 {
     match refused {
         Refused::CreateExists | Refused::CreateTooFew(_) | Refused::CreateNoRoom { .. } => {
-            write!(text, "create {}", declared.name())
+            write_create(text, declared)
         }
-        Refused::DeleteAbsent => write!(text, "delete"),
+        Refused::DeleteAbsent => text.push_str("delete"),
         Refused::WriteAbsent { offset, len }
         | Refused::WriteTooFew { offset, len, .. }
         | Refused::WriteTooLong { offset, len, .. }
         | Refused::WriteLost { offset, len, .. }
-        | Refused::WriteNoRoom { offset, len, .. } => write!(text, "write {offset} {len}"),
+        | Refused::WriteNoRoom { offset, len, .. } => write_range(text, "write", *offset, *len),
         Refused::ReadAbsent { offset, len } | Refused::ReadLost { offset, len, .. } => {
-            write!(text, "read {offset} {len}")
+            write_range(text, "read", *offset, *len)
         }
-        Refused::LevelAbsent { level } => write!(text, "level {}", level.name()),
+        Refused::LevelAbsent { level } => {
+            text.push_str("level ")?;
+            text.push_str(level.name())
+        }
     }
 }
 
@@ -126,17 +164,28 @@ fn write_reason(text: &mut String, refused: &Refused) -> Result<(), AllocError>
     ensures { OnOk result (string_bytes text.new ≡ string_bytes text.old ++ reason_text refused.now) }
 {
     match refused {
-        Refused::CreateExists => write!(text, "exists"),
+        Refused::CreateExists => text.push_str("exists"),
         Refused::DeleteAbsent
         | Refused::WriteAbsent { .. }
         | Refused::ReadAbsent { .. }
-        | Refused::LevelAbsent { .. } => write!(text, "absent"),
+        | Refused::LevelAbsent { .. } => text.push_str("absent"),
         Refused::CreateTooFew(fault) | Refused::WriteTooFew { fault, .. } => {
-            write!(text, "toofew {} {}", fault.have, fault.need)
+            text.push_str("toofew ")?;
+            write_number(text, u64::from(fault.have))?;
+            text.push(' ')?;
+            write_number(text, u64::from(fault.need))
         }
-        Refused::WriteTooLong { count, .. } => write!(text, "toolong {count}"),
+        Refused::WriteTooLong { count, .. } => {
+            text.push_str("toolong ")?;
+            write_number(text, *count)
+        }
         Refused::WriteLost { lost, .. } | Refused::ReadLost { lost, .. } => {
-            write!(text, "lost {} {} {}", lost.generation, lost.have, lost.need)
+            text.push_str("lost ")?;
+            write_number(text, u64::from(lost.generation))?;
+            text.push(' ')?;
+            write_number(text, u64::from(lost.have))?;
+            text.push(' ')?;
+            write_number(text, u64::from(lost.need))
         }
         Refused::CreateNoRoom { need, got, drives }
         | Refused::WriteNoRoom {
@@ -145,7 +194,11 @@ fn write_reason(text: &mut String, refused: &Refused) -> Result<(), AllocError>
             drives,
             ..
         } => {
-            write!(text, "noroom {need} {got} ")?;
+            text.push_str("noroom ")?;
+            write_number(text, u64::from(*need))?;
+            text.push(' ')?;
+            write_number(text, u64::from(*got))?;
+            text.push(' ')?;
             write_drives(text, drives.as_slice())
         }
     }

@@ -10,4 +10,4 @@ mod words;
 pub use board_lines::write_board_entry;
 pub use file_lines::write_file_entry;
 pub use logs::Logs;
-pub use printed::print;
+pub use printed::{print, write_board, write_files};

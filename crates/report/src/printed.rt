@@ -32,15 +32,21 @@ fn write_report(text: &mut String, logs: &Logs) -> Result<(), AllocError>
     write!(text, "end\n")
 }
 
+/// Adds the board's entries, after their number.
 #[tactic(auto, unfolding(crate::specs::Printed::board_block))]
-fn write_board(text: &mut String, log: &[BoardEntry]) -> Result<(), AllocError>
+pub fn write_board(text: &mut String, log: &[BoardEntry]) -> Result<(), AllocError>
     ensures { OnOk result (string_bytes text.new ≡ string_bytes text.old ++ board_block log.now) }
 {
     writeln!(text, "board {}", log.len())?;
     board_lines::write_entries(text, log)
 }
 
-fn write_files(text: &mut String, files: &[FileDecl], logs: &[FileLog]) -> Result<(), AllocError>
+/// Adds the entries of each file that has a log, after its name and their number.
+pub fn write_files(
+    text: &mut String,
+    files: &[FileDecl],
+    logs: &[FileLog],
+) -> Result<(), AllocError>
     ensures { OnOk result (string_bytes text.new ≡ string_bytes text.old ++ file_blocks files.now logs.now) }
 {
     for (file, log) in files.iter().zip(logs) {
