@@ -25,6 +25,7 @@ use Rattle.placement_order.specs.Order.{DrawRequest}
 use Rattle.placement.specs.PlacedGroups.{FindsNoPlace, Places}
 use Rattle.placement.specs.declared.refusal.NoRoom.{NoRoom}
 use Rattle.slot_search.specs.HandSeats.{drives_at}
+use Rattle.turn_cell.specs.Seats.{seat_view}
 use Rattle.file_turns.specs.FileTurns.{ChangesFile}
 use Rattle.file_turns.specs.NewInodes.{AsksForInode}
 use Rattle.file_turns.specs.PathRoom.{with_room}
@@ -145,6 +146,7 @@ module _ {S : Type 0} (place_of : S → RawPlace) (content : S → Option (List 
       asks = asks_old x spare tells.view tells.inode.request tells.inode.asks;
       slots = tells.inode.slots;
       placed = tells.inode.placed;
+      board = tells.inode.board;
       spare = tells.inode.spare;
       created = tells.inode.created;
     };
@@ -170,6 +172,7 @@ module _ {S : Type 0} (place_of : S → RawPlace) (content : S → Option (List 
       request = tells.none.request;
       asks = asks_old x spare tells.view tells.none.request tells.none.asks;
       found = tells.none.found;
+      board = tells.none.board;
       refused = refused_old by tells.view (CreateNoRoom told.need told.got (drives_at told.empty)) x y spare tells.none.refused;
     };
   }
@@ -192,31 +195,32 @@ module _ {S : Type 0} (place_of : S → RawPlace) (content : S → Option (List 
 
   -- the inode is placed, and its slots are the file's, or went back
   pub tells_switched : (by : By) (view : View) (x y : FileView S) (looked placed new : Hand S) (s : DrawRequest) (slots : List S) → AsksForInode x view s
-      → Places place_of content len_of faults s (units_of_inode x) slots looked placed → {T : Type 0} (result : Result T CreateRefusal)
-      → OnOk result (y ≡ created_on place_of by view slots x) → OnOk result (new ≡ placed) → OnErr result (y ≡ x) → IfErr result (λ e. e ≡ NoMemory)
+      → Places place_of content len_of faults s (units_of_inode x) slots looked placed → seat_view placed.board ≡ seat_view looked.board
+      → {T : Type 0} (result : Result T CreateRefusal) → OnOk result (y ≡ created_on place_of by view slots x) → OnOk result (new ≡ placed) → OnErr result (y ≡ x) → IfErr result (λ e. e ≡ NoMemory)
       → PlaceTells place_of content len_of faults result by view x y looked new
-  tells_switched by view x y looked placed new s slots asks found (Ok done) created taken kept memory = record {
+  tells_switched by view x y looked placed new s slots asks found board (Ok done) created taken kept memory = record {
     request = s;
     asks = asks;
     slots = slots;
     placed = subst (Places place_of content len_of faults s (units_of_inode x) slots looked) (sym taken) found;
+    board = ap (λ (hand : Hand S). seat_view hand.board) taken ∙ board;
     spare = x.spare;
     created = created;
   }
-  tells_switched by view x y looked placed new s slots asks found {T} (Err e) created taken kept memory =
+  tells_switched by view x y looked placed new s slots asks found board {T} (Err e) created taken kept memory =
       subst (λ (e : CreateRefusal). PlaceTells place_of content len_of faults (failed T e) by view x y looked new) (sym memory) (room_same x y kept)
 
   -- the inode finds no place, and the refusal is noted
   pub tells_noted : (by : By) (view : View) (told : NoRoom) (x y : FileView S) (looked new : Hand S) (s : DrawRequest) → AsksForInode x view s
-      → FindsNoPlace place_of content len_of faults s (units_of_inode x) told looked new → (T : Type 0) (e : CreateRefusal) → NotesNoRoom e by view told x y
-      → PlaceTells place_of content len_of faults (failed T e) by view x y looked new
-  tells_noted by view told x y looked new s asks found T Exists notes = absurd notes
-  tells_noted by view told x y looked new s asks found T (TooFewOf fault) notes = absurd notes
-  tells_noted by view told x y looked new s asks found T (NoRoomOf answered) notes =
+      → FindsNoPlace place_of content len_of faults s (units_of_inode x) told looked new → seat_view new.board ≡ seat_view looked.board → (T : Type 0) (e : CreateRefusal)
+      → NotesNoRoom e by view told x y → PlaceTells place_of content len_of faults (failed T e) by view x y looked new
+  tells_noted by view told x y looked new s asks found board T Exists notes = absurd notes
+  tells_noted by view told x y looked new s asks found board T (TooFewOf fault) notes = absurd notes
+  tells_noted by view told x y looked new s asks found board T (NoRoomOf answered) notes =
       subst (λ (n : NoRoom). PlacesNoInode place_of content len_of faults by view n x y looked new) (sym notes.0)
-      (record { request = s; asks = asks; found = found; refused = notes.1 })
-  tells_noted by view told x y looked new s asks found T LogFull notes = absurd notes
-  tells_noted by view told x y looked new s asks found T NoMemory notes = room_same x y notes
+      (record { request = s; asks = asks; found = found; board = board; refused = notes.1 })
+  tells_noted by view told x y looked new s asks found board T LogFull notes = absurd notes
+  tells_noted by view told x y looked new s asks found board T NoMemory notes = room_same x y notes
 
 -- what follows from a fact follows, unless memory ran out
 pub unless_out_weaker : {T A B : Type 0} (result : Result T CreateRefusal) → (A → B) → UnlessOutOfMemory result A → UnlessOutOfMemory result B

@@ -23,6 +23,7 @@ use Rattle.placement_order.specs.Order.{DrawRequest}
 use Rattle.placement.specs.PlacedGroups.{FindsNoPlace, Places}
 use Rattle.placement.specs.declared.refusal.NoRoom.{NoRoom}
 use Rattle.slot_search.specs.HandSeats.{draw_request, drives_at}
+use Rattle.turn_cell.specs.Seats.{seat_view}
 use Rattle.file_turns.specs.NewInodes.{AsksForInode}
 use Rattle.write_path.specs.Creations.{NotesNoRoom, PlaceTells, units_of_inode}
 use Rattle.write_path.specs.declared.creation.CreateRefusal.{CreateRefusal}
@@ -70,19 +71,19 @@ module _ {S : Type 0} (place_of : S → RawPlace) (content : S → Option (List 
 
   -- what is answered, once the slots are there
   pub placed_tells : (other by : By) → other ≡ by → (y : FileView S) (looked placed new : Hand S) (slots : List S)
-      → Places place_of content len_of faults request units slots looked placed → {T : Type 0} (result : Result T CreateRefusal)
-      → OnOk result (y ≡ created_on place_of other view slots x) → OnOk result (new ≡ placed) → OnErr result (y ≡ x) → IfErr result (λ e. e ≡ NoMemory)
+      → Places place_of content len_of faults request units slots looked placed → seat_view placed.board ≡ seat_view looked.board
+      → {T : Type 0} (result : Result T CreateRefusal) → OnOk result (y ≡ created_on place_of other view slots x) → OnOk result (new ≡ placed) → OnErr result (y ≡ x) → IfErr result (λ e. e ≡ NoMemory)
       → PlaceTells place_of content len_of faults result by view x y looked new
-  placed_tells other by is_by y looked placed new slots found result created =
-      tells_switched place_of content len_of faults by view x y looked placed new request slots asks (of_inode slots looked placed found) result
+  placed_tells other by is_by y looked placed new slots found board result created =
+      tells_switched place_of content len_of faults by view x y looked placed new request slots asks (of_inode slots looked placed found) board result
       (subst (λ (b : By). OnOk result (y ≡ created_on place_of b view slots x)) is_by created)
 
   -- what is answered, if there are none
   pub none_tells : (other by : By) → other ≡ by → (told : NoRoom) (y : FileView S) (looked new : Hand S)
-      → FindsNoPlace place_of content len_of faults request units told looked new → (T : Type 0) (e : CreateRefusal) → NotesNoRoom e other view told x y
-      → PlaceTells place_of content len_of faults (failed T e) by view x y looked new
-  none_tells other by is_by told y looked new found T e notes =
-      tells_noted place_of content len_of faults by view told x y looked new request asks (finds told looked new found) T e
+      → FindsNoPlace place_of content len_of faults request units told looked new → seat_view new.board ≡ seat_view looked.board → (T : Type 0) (e : CreateRefusal)
+      → NotesNoRoom e other view told x y → PlaceTells place_of content len_of faults (failed T e) by view x y looked new
+  none_tells other by is_by told y looked new found board T e notes =
+      tells_noted place_of content len_of faults by view told x y looked new request asks (finds told looked new found) board T e
       (subst (λ (b : By). NotesNoRoom e b view told x y) is_by notes)
 
 -- the next generation of a file has a bound

@@ -15,6 +15,7 @@ use Rattle.placement_order.specs.Order.{DrawRequest}
 use Rattle.placement.specs.PlacedGroups.{FindsNoPlace, Places}
 use Rattle.placement.specs.declared.refusal.NoRoom.{NoRoom}
 use Rattle.slot_search.specs.HandSeats.{drives_at}
+use Rattle.turn_cell.specs.Seats.{seat_view}
 use Rattle.file_turns.specs.NewInodes.{AsksForInode}
 use Rattle.file_turns.specs.PathRoom.{entries_of_path, with_room}
 use Rattle.file_turns.specs.Paths.{Begins, IsFull, IsRefused}
@@ -53,12 +54,13 @@ module _ {S : Type 0} where
     pub file : y ≡ with_room y.spare x
 
 module _ {S : Type 0} (place_of : S → RawPlace) (content : S → Option (List ℕ)) (len_of faults : S → ℕ) where
-  -- the inode is placed, and the file is created on its slots
+  -- the inode is placed, and the file is created on its slots; the hand's seat at the board makes no turn meanwhile
   pub record PlacesInode (by : By) (view : View) (x y : FileView S) (old new : Hand S) : Type 0 where
     pub request : DrawRequest
     pub asks : AsksForInode x view request
     pub slots : List S
     pub placed : Places place_of content len_of faults request (units_of_inode x) slots old new
+    pub board : seat_view new.board ≡ seat_view old.board
     pub spare : ℕ
     pub created : y ≡ created_on place_of by view slots (with_room spare x)
 
@@ -67,6 +69,7 @@ module _ {S : Type 0} (place_of : S → RawPlace) (content : S → Option (List 
     pub request : DrawRequest
     pub asks : AsksForInode x view request
     pub found : FindsNoPlace place_of content len_of faults request (units_of_inode x) told old new
+    pub board : seat_view new.board ≡ seat_view old.board
     pub refused : IsRefused by view (CreateNoRoom told.need told.got (drives_at told.empty)) x y
 
   -- what the answer tells of an absent file whose usable drives have the room

@@ -36,7 +36,7 @@ returns-in-Ok-clause-tells g c =
     placed_tells g.S.Slot.place_of g.S.Slot.content g.S.Slot.len_of g.S.Slot.faults c.args.file.now c.args.view.now c.args.look.now _ c.args.usable.now c.new-none.result _
     (fabric_view c.args.desk.now.fabric.now).shape c.args.units.now.units c.requires.file c.requires.look c.requires.usable c.new-none.ensures
     (ap (λ (n : ℕ). n + c.args.look.now.next_generation) (c.from-number.ensures ∙ c.file.ensures)) c.requires.shape c.requires.units
-    c.place.new.desk.by c.args.desk.now.by c.place.ensures.same.by c.switch_in.new.file c.args.desk.now.hand.now c.place.new.desk.hand.now c.switch_in.new.desk.hand.now c.in-Ok.slots c.in-Ok.ensures.ok c.switch_in.result
+    c.place.new.desk.by c.args.desk.now.by c.place.ensures.same.by c.switch_in.new.file c.args.desk.now.hand.now c.place.new.desk.hand.now c.switch_in.new.desk.hand.now c.in-Ok.slots c.in-Ok.ensures.ok c.place.ensures.board c.switch_in.result
     c.switch_in.ensures.created c.switch_in.ensures.taken c.switch_in.ensures.kept c.switch_in.ensures.memory
 
 pub returns-in-Err-NoRoom-clause-tells : goal.returns-in-Err-NoRoom-clause-tells
@@ -48,4 +48,4 @@ returns-in-Err-NoRoom-clause-tells g c =
     none_tells g.S.Slot.place_of g.S.Slot.content g.S.Slot.len_of g.S.Slot.faults c.args.file.now c.args.view.now c.args.look.now _ c.args.usable.now c.new-none.result _
     (fabric_view c.args.desk.now.fabric.now).shape c.args.units.now.units c.requires.file c.requires.look c.requires.usable c.new-none.ensures
     (ap (λ (n : ℕ). n + c.args.look.now.next_generation) (c.from-number.ensures ∙ c.file.ensures)) c.requires.shape c.requires.units
-    c.place.new.desk.by c.args.desk.now.by c.place.ensures.same.by c.in-Err-NoRoom.told c.note_no_room.new.file c.args.desk.now.hand.now c.place.new.desk.hand.now found ℕ c.note_no_room.result c.note_no_room.ensures.tells
+    c.place.new.desk.by c.args.desk.now.by c.place.ensures.same.by c.in-Err-NoRoom.told c.note_no_room.new.file c.args.desk.now.hand.now c.place.new.desk.hand.now found c.place.ensures.board ℕ c.note_no_room.result c.note_no_room.ensures.tells
