@@ -1,1 +1,3 @@
+mod PoolNumbers
+pub mod FreeCounts
 pub mod ReturnLemmas

@@ -2,6 +2,7 @@
 #![tactic(auto)]
 
 mod fabric_end;
+pub mod laws;
 mod slots;
 
 pub use fabric_end::close_fabric;
