@@ -3,7 +3,6 @@ use Rattle.std.specs.Prelude.{◌≡◌, ℕ, ◌+◌, ◌%◌, ◌^◌, ◌<◌
 use Rattle.std.specs.List.{sum}
 use Rattle.domains.specs.Drive.{Drive}
 use Rattle.domains.specs.Shape.{Shape, is_of}
-use Rattle.domains.specs.Shape.{Shape}
 use Rattle.fabric.specs.ClosedFabric.{AreHolding, ArePoolsOf, AreYardOf, IsAccounted, IsExact}
 use Rattle.fabric.specs.declared.hand.Hand.{Hand}
 use Rattle.flex_io.specs.declared.fault.Fault.{Fault}
