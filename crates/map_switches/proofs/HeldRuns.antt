@@ -1,7 +1,7 @@
 -- Groups whose slots hold bytes, one after the other, and a run of them that makes way for others.
 use Rattle.std.proofs.Common.{◌≡◌, ℕ, suc, ◌+◌, ◌-◌, ◌*◌, ◌<◌, ◌≤◌, min, ◌⊎◌, inl, inr, List, [], ◌∷◌, ◌++◌, length, map, take, drop, replicate, refl, sym, ap, subst, ◌∙◌, arith, append_assoc, length-append}
 use Rattle.std.specs.List.{AllByRecursion, flat_map}
-use Rattle.std.proofs.lemmas.List.{length-take}
+use Rattle.std.proofs.lemmas.List.{ext_get_or, get_or_append_left, get_or-append_right, length-take}
 use Rattle.std.proofs.lemmas.List.Sums.{sum_by-cons}
 use Rattle.domains.specs.declared.group.Group.{Group}
 use Rattle.inode_codec.specs.Inode.{data_units}
@@ -9,7 +9,8 @@ use Rattle.map_changes.specs.ChangedMaps.{spliced}
 use Rattle.map_changes.proofs.Pairs.{All-take}
 use Rattle.map_changes.proofs.SplicedLists.{in_three}
 use Rattle.map_switches.proofs.RewrittenBytes.{rewritten}
-use Rattle.write_rule.proofs.NewBytesByPlace.{at}
+use Rattle.write_rule.specs.NewBytes.{padded_slice}
+use Rattle.write_rule.proofs.NewBytesByPlace.{at, padded_at, slice_at, slice_length}
 use Rattle.striped_groups.specs.StoredGroups.{Content, StoredGroup, HoldRun, HoldsUnits}
 
 abbrev pub mapped : List StoredGroup → List Group
@@ -79,6 +80,37 @@ no_bytes (x ∷ xs) bytes unit none run = absurd (omega (arith, long))
   where
     long : suc (length xs) ≡ 0
     long = ap (λ (l : List StoredGroup). length l) none
+
+-- the bytes of a part, between others, are those of the whole from there on
+middle_at : (old fb rb bb : List ℕ) (z s j : ℕ) → old ++ replicate z 0 ≡ fb ++ (rb ++ bb) → length fb ≡ s → j < length rb → at rb j ≡ at old (s + j)
+middle_at old fb rb bb z s j parts fl below =
+    sym (get_or_append_left rb bb 0 j below) ∙ sym (ap (λ (n : ℕ). at (rb ++ bb) n) (left s j))
+    ∙ sym (get_or-append_right fb (rb ++ bb) s (s + j) 0 fl (omega arith)) ∙ sym (ap (λ (l : List ℕ). at l (s + j)) parts) ∙ padded_at old z (s + j)
+  where
+    left : (s j : ℕ) → s + j - s ≡ j
+    left s j = omega arith
+
+-- a run of groups holds its part of the bytes
+pub HoldRun-middle : (xs : List StoredGroup) (first count : ℕ) (old : List ℕ) (z unit : ℕ) → HoldRun xs (old ++ replicate z 0) unit
+    → HoldRun (take count (drop first xs))
+    (padded_slice old (data_units (mapped (take first xs)) * unit) (data_units (mapped (take count (drop first xs))) * unit)) unit
+HoldRun-middle xs first count old z unit run =
+    let front = take first xs in
+    let middle = take count (drop first xs) in
+    let back = drop (first + count) xs in
+    let whole = subst (λ (l : List StoredGroup). HoldRun l (old ++ replicate z 0) unit) (in_three xs first count) run in
+    let a = HoldRun-split front (middle ++ back) (old ++ replicate z 0) unit whole in
+    let b = HoldRun-split middle back a.1 unit a.4 in
+    let s = data_units (mapped front) * unit in
+    let k = data_units (mapped middle) * unit in
+    subst (λ (l : List ℕ). HoldRun middle l unit)
+    (part b.0 s k (HoldRun-length middle b.0 unit b.3)
+    (λ j below. middle_at old a.0 b.0 b.1 z s j (a.2 ∙ ap (λ (l : List ℕ). a.0 ++ l) b.2) (HoldRun-length front a.0 unit a.3) below)) b.3
+  where
+    part : (rb : List ℕ) (s k : ℕ) → length rb ≡ k → ((j : ℕ) → j < length rb → at rb j ≡ at old (s + j)) → rb ≡ padded_slice old s k
+    part rb s k long same =
+        let other = slice_length old s k in
+        ext_get_or 0 rb (padded_slice old s k) (long ∙ sym other) (λ j below. same j below ∙ sym (slice_at old s k j (subst (λ (n : ℕ). j < n) long below)))
 
 -- The slots hold the old bytes; new groups in the place of a run hold their part of the new bytes, which differ from the old ones only
 -- between `offset` and `stop`. The run is the last and reaches the end, or has as many data units as before and all that differs.

@@ -1,1 +1,2 @@
+pub mod RepairedUnits
 pub mod Switches

@@ -4,9 +4,12 @@ ghost use Rattle.std.specs.Prelude.{◌≡◌, ◌≤◌, ◌<◌, ◌+◌, ◌+
 ghost use Rattle.std.specs.List.{AllByRecursion};
 ghost use Rattle.domains.specs.Place.{IsPlace};
 ghost use Rattle.file_history.specs.Layout.{places_of};
+ghost use Rattle.striped_groups.specs.StoredGroups.{list_of};
 ghost use Rattle.map_changes.specs.ChangedMaps.{first_of, spliced};
-ghost use Rattle.map_switches.specs.Switches.{groups_of, numbered, stripes_from};
+ghost use Rattle.map_switches.specs.Switches.{AreForRun, brought_groups, fresh_places, groups_of, numbered, repaired_among, run_in, stripes_from};
 
+use crate::change::Fresh;
+use crate::repaired_units::{push_added, repaired_group};
 use domains::{DriveId, Group, Place};
 use lists::List;
 use map_changes::replace_run;
@@ -14,12 +17,45 @@ use stale_changes::is_among;
 use std::alloc::{AllocError, Global};
 use striped_groups::Stripe;
 
-/// The groups of these slots, with the generations from this one on.
-pub fn numbered<S>(
+/// The groups that a change brings in the place of a run, with the generations from this one on.
+pub fn brought_groups<S>(
     alloc: Global,
-    stripes: &[Stripe<S>],
+    run: &[Stripe<S>],
+    fresh: &Fresh<S>,
     next: u32,
 ) -> Result<Vec<Group>, AllocError>
+    requires units { AreForRun run.now fresh.now }
+    requires small { next + length (brought_groups (groups_of run.now) fresh.now) < 2 ^ 32 }
+    ensures { IfOk result (λ groups. groups.items ≡ numbered (brought_groups (groups_of run.now) fresh.now) next) }
+{
+    match fresh {
+        Fresh::Groups(stripes) => numbered(alloc, stripes.as_slice(), next),
+        Fresh::Units(units) => {
+            let [stripe] = run else { unreachable!() };
+            let mut groups = Vec::new(alloc);
+            groups.push(repaired_group(alloc, stripe.group(), units.as_slice(), next)?)?;
+            Ok(groups)
+        }
+    }
+}
+
+/// The group of a repair, which the map takes: a copy of the one that the log takes.
+pub fn repaired_among<S>(
+    alloc: Global,
+    fresh: &Fresh<S>,
+    groups: &[Group],
+) -> Result<Option<Group>, AllocError>
+    requires { length (repaired_among fresh.now groups.now) ≤ 1 }
+    ensures { IfOk result (λ repaired. list_of repaired ≡ repaired_among fresh.now groups.now) }
+{
+    let (Fresh::Units(_), [group]) = (fresh, groups) else {
+        return Ok(None);
+    };
+    Ok(Some(copy_as(alloc, group, group.generation)?))
+}
+
+/// The groups of these slots, with the generations from this one on.
+fn numbered<S>(alloc: Global, stripes: &[Stripe<S>], next: u32) -> Result<Vec<Group>, AllocError>
     requires { next + length stripes.now < 2 ^ 32 }
     ensures { IfOk result (λ groups. groups.items ≡ numbered (groups_of stripes.now) next) }
 {
@@ -69,11 +105,19 @@ pub fn give_generations<S>(stripes: &mut [Stripe<S>], next: u32)
     give_generations(rest, next + 1);
 }
 
+/// Puts the places of the new units of a change, but for the inode's, behind others.
+pub fn push_fresh_places<S>(fresh: &Fresh<S>, places: &mut Vec<Place>) -> Result<(), AllocError>
+    ensures pushed { OnOk result (places.new.items ≡ places.old.items ++ fresh_places fresh.now) }
+    ensures places { OnOk result (AllByRecursion IsPlace (fresh_places fresh.now)) }
+{
+    match fresh {
+        Fresh::Groups(stripes) => push_group_places(stripes.as_slice(), places),
+        Fresh::Units(units) => push_added(units.as_slice(), places),
+    }
+}
+
 /// Puts the places of the groups behind others.
-pub fn push_group_places<S>(
-    stripes: &[Stripe<S>],
-    places: &mut Vec<Place>,
-) -> Result<(), AllocError>
+fn push_group_places<S>(stripes: &[Stripe<S>], places: &mut Vec<Place>) -> Result<(), AllocError>
     ensures pushed { OnOk result (places.new.items ≡ places.old.items ++ places_of (groups_of stripes.now)) }
     ensures places { OnOk result (AllByRecursion IsPlace (places_of (groups_of stripes.now))) }
 {
@@ -97,7 +141,7 @@ pub fn push_copies(copied: &[Place], places: &mut Vec<Place>) -> Result<(), Allo
 }
 
 /// The place itself, which keeps within the limits of its numbers.
-fn checked(place: Place) -> Place
+pub fn checked(place: Place) -> Place
     ensures same { result ≡ place }
     ensures limits { IsPlace result }
 {
@@ -130,6 +174,15 @@ pub fn first_of<S>(stripes: &[Stripe<S>], old: &[u32]) -> usize
         return 0;
     }
     1 + first_of(rest, old)
+}
+
+/// The groups with these generations.
+pub fn run_in<'a, S>(stripes: &'a [Stripe<S>], old: &[u32]) -> &'a [Stripe<S>]
+    requires { first_of old.now (groups_of stripes.now) + length old.now ≤ length stripes.now }
+    ensures { result.now ≡ run_in old.now stripes.now }
+{
+    let first = first_of(stripes, old);
+    &stripes[first..first + old.len()]
 }
 
 /// Puts the groups in the place of those with these generations, which it answers in map order. The new ones get the generations

@@ -6,20 +6,20 @@ use Rattle.map_switches.proofs.exchanged.put_groups.Goals as goal
 pub count_units-requires-clause-few : goal.count_units-requires-clause-few
 count_units-requires-clause-few g c =
     let most =
-    (counted c.args.groups.now.items c.deref.result.now c.into_brought-fresh.result c.args.next c.args.size c.args.change c.requires.bounds c.into_brought-fresh.ensures
-    (c.deref.ensures.value ∙ c.replace_groups-gone.ensures.groups)).0 in
+    (counted c.args.groups.now.items c.deref.result.now c.args.next c.args.size c.args.change c.requires.bounds
+    (c.deref.ensures.value ∙ c.replace-gone.ensures.groups)).0 in
     omega (arith, most)
 
 pub count_units-requires-clause-places : goal.count_units-requires-clause-places
 count_units-requires-clause-places g c =
-    (counted c.args.groups.now.items c.deref.result.now c.into_brought-fresh.result c.args.next c.args.size c.args.change c.requires.bounds c.into_brought-fresh.ensures
-    (c.deref.ensures.value ∙ c.replace_groups-gone.ensures.groups)).1
+    (counted c.args.groups.now.items c.deref.result.now c.args.next c.args.size c.args.change c.requires.bounds
+    (c.deref.ensures.value ∙ c.replace-gone.ensures.groups)).1
 
 pub overflow_add-units : goal.overflow_add-units
 overflow_add-units g c =
     let most =
-    (counted c.args.groups.now.items c.deref.result.now c.into_brought-fresh.result c.args.next c.args.size c.args.change c.requires.bounds c.into_brought-fresh.ensures
-    (c.deref.ensures.value ∙ c.replace_groups-gone.ensures.groups)).0 in
+    (counted c.args.groups.now.items c.deref.result.now c.args.next c.args.size c.args.change c.requires.bounds
+    (c.deref.ensures.value ∙ c.replace-gone.ensures.groups)).0 in
     let units = c.count_units.ensures.most in
     let root = c.requires.bounds.root_narrow in
     let len = c.len.ensures in
