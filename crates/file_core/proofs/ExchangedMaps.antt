@@ -19,11 +19,12 @@ use Rattle.file_core.specs.FileView.{FileView, IsFile, layout_of, with_note}
 use Rattle.file_core.specs.Notes.{noted}
 use Rattle.file_heads.specs.PullRefusals.{group_of}
 use Rattle.striped_groups.specs.StoredGroups.{GroupSlots}
-use Rattle.map_switches.specs.Switches.{IsExchanged, brought, event_of, event_with, groups_of, inode_from, logged, size_after, stripes_from}
-use Rattle.file_core.specs.FileSwitches.{IsPrepared, IsReady, switched}
+use Rattle.map_switches.specs.Switches.{IsExchanged, brought, event_of, event_with, groups_of, inode_from, logged, new_groups, new_stripes, numbered, released, size_after, stripes_from}
+use Rattle.file_core.specs.FileSwitches.{IsPrepared, IsReady, replaced_in, switched}
 use Rattle.file_core.proofs.GroupLookups.{groups_of as groups_of_file}
 use Rattle.file_core.proofs.PulledSlots.{root_group}
 use Rattle.file_core.proofs.ReadyChanges.{run}
+use Rattle.map_switches.proofs.BroughtGroups.{new-groups}
 use Rattle.map_switches.proofs.SwitchBounds.{groups_switched}
 use Rattle.file_core.proofs.SwitchedHead.{head_switched}
 
@@ -39,13 +40,15 @@ module _ {S : Type 0} (place_of : S → RawPlace) (content : S → Option (List 
   event_is : r.event ≡ event_of change.why (layout_of f).size (logged (layout_of f) change)
   event_is = done.event ∙ ap (λ (c : Change). event_with change.why (size_after change.why (layout_of f).size) c) change_is
 
-  groups_are : new ≡ spliced f.groups (first_of change.old (layout_of f).groups) (length change.old) (stripes_from (brought change.fresh) (layout_of f).next)
+  groups_are : new
+      ≡ spliced f.groups (first_of change.old (layout_of f).groups) (length change.old) (stripes_from (brought (replaced_in f change) change.fresh) (layout_of f).next)
   groups_are =
       done.groups
-      ∙ ap (λ (gs : List Group). spliced f.groups (first_of change.old gs) (length change.old) (stripes_from (brought change.fresh) (layout_of f).next)) same
+      ∙ ap (λ (gs : List Group). spliced f.groups (first_of change.old gs) (length change.old)
+      (stripes_from (brought (take (length change.old) (drop (first_of change.old gs) f.groups)) change.fresh) (layout_of f).next)) same
 
-  pub gone_are : r.gone ≡ take (length change.old) (drop (first_of change.old (layout_of f).groups) f.groups)
-  gone_are = done.gone ∙ ap (λ (gs : List Group). take (length change.old) (drop (first_of change.old gs) f.groups)) same
+  pub gone_are : r.gone ≡ released (replaced_in f change) change.fresh
+  gone_are = done.gone ∙ ap (λ (gs : List Group). released (take (length change.old) (drop (first_of change.old gs) f.groups)) change.fresh) same
 
   inode_is : r.inode ≡ inode_from (layout_of f) change
   inode_is =
@@ -74,8 +77,9 @@ module _ {S : Type 0} (place_of : S → RawPlace) (content : S → Option (List 
       (λ i. ((done.next ∙ ap (λ (g : Group). g.generation + 1) prepared.inode) i, done.size i)))
       (done.units ∙ ap (λ (gs : List Group). length (places_of gs) + length change.inode.group.places)
       (ap (λ (gs : List (GroupSlots S)). groups_of gs) done.groups
-      ∙ groups_switched f.groups (brought change.fresh) (first_of change.old (groups_of f.groups)) (length change.old) l.next
-      ∙ ap (λ (gs : List Group). spliced gs (first_of change.old gs) (length change.old) c.new) same ∙ sym for_run.run)))
+      ∙ groups_switched f.groups (new_stripes f.groups change) (first_of change.old (groups_of f.groups)) (length change.old) l.next
+      ∙ ap (λ (gs : List Group). spliced (groups_of f.groups) (first_of change.old (groups_of f.groups)) (length change.old) (numbered gs l.next)) (new-groups f.groups change)
+      ∙ ap (λ (gs : List Group). spliced gs (first_of change.old gs) (length change.old) (numbered (new_groups gs change) l.next)) same ∙ sym for_run.run)))
 
 -- a file that is there has an inode
 pub inode_there : {S : Type 0} (place_of : S → RawPlace) (content : S → Option (List ℕ)) (len_of : S → ℕ) (f : FileView S) → IsFile place_of content len_of f

@@ -8,6 +8,7 @@ pub mod DecodableGroups
 pub mod PulledBytes
 pub mod StoredPlacesLemmas
 mod SwitchedFile
+mod SwitchedRuns
 mod ReadyChanges
 mod ReadyBounds
 mod ExchangedMaps

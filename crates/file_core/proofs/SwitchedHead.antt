@@ -8,7 +8,7 @@ use Rattle.file_history.specs.Layout.{Layout, layout_after_event, places_of, rep
 use Rattle.file_history.specs.declared.entry.Change.{Change}
 use Rattle.map_changes.proofs.ChangedPlaces.{places_of-append}
 use Rattle.map_switches.specs.declared.change.Why.{Why}
-use Rattle.map_switches.specs.declared.change.Why.TheVariants.{Write}
+use Rattle.map_switches.specs.declared.change.Why.TheVariants.{Write, Place as Place_}
 use Rattle.file_heads.specs.declared.head.Head.{Head}
 use Rattle.file_heads.specs.DeadUnits.{names}
 use Rattle.file_heads.specs.Heads.{IsHead}
@@ -24,6 +24,15 @@ pub head_switched : (why : Why) (h after : Head) (l : Layout) (c : Change) (decl
     → units ≡ length (places_of (replaced c.old c.new l.groups)) + length c.inode.places
     → IsHead after (layout_after_event declared (event_of why l.size c) l)
 head_switched (Write offset bytes) h after l c declared units head is count = record {
+  requested = ap (λ (x : Head). x.requested) is ∙ head.requested;
+  level = ap (λ (x : Head). x.level) is ∙ head.requested;
+  size = ap (λ (x : Head). x.size) is;
+  next = ap (λ (x : Head). x.next) is;
+  units = ap (λ (x : Head). x.units) is ∙ count ∙ all_units (replaced c.old c.new l.groups) c.inode;
+  dead = λ generation position. ap (λ (x : Head). names x.dead.items generation position) is ∙ head.dead generation position;
+  barred = λ d drive. ap (λ (x : Head). has x.barred d) is ∙ head.barred d drive;
+}
+head_switched (Place_ job) h after l c declared units head is count = record {
   requested = ap (λ (x : Head). x.requested) is ∙ head.requested;
   level = ap (λ (x : Head). x.level) is ∙ head.requested;
   size = ap (λ (x : Head). x.size) is;

@@ -1,5 +1,5 @@
 -- The change of a file's map, as the file's state makes it.
-use Rattle.std.specs.Prelude.{◌≡◌, ℕ, ◌≤◌, List, [], length, map, take, drop, Option, None, Some}
+use Rattle.std.specs.Prelude.{◌≡◌, ℕ, ◌≤◌, List, length, map, take, drop, Option, None, Some}
 use Rattle.std.specs.List.{AllByRecursion}
 use Rattle.flex_io.specs.declared.raw_place.RawPlace.{RawPlace}
 use Rattle.board.specs.declared.board_view.View.{View}
@@ -15,13 +15,13 @@ use Rattle.map_changes.specs.ChangedMaps.{AreFree, first_of, inode_with}
 use Rattle.stale_changes.specs.declared.stale.Stale.{Stale}
 use Rattle.map_switches.specs.declared.change.MapChange.{MapChange}
 use Rattle.file_core.specs.declared.switch.Switched.{Switched}
-use Rattle.striped_groups.specs.StoredGroups.{Took}
+use Rattle.striped_groups.specs.StoredGroups.{GroupSlots, Took, list_of}
 use Rattle.map_switches.specs.declared.prepared.Prepared.{Prepared}
 use Rattle.file_core.specs.Notes.{noted}
 use Rattle.file_core.specs.FileView.{FileView, bytes_of, layout_of, log_of, now_of, with_note}
 use Rattle.stale_changes.specs.Staleness.{cause_in}
 use Rattle.stale_changes.specs.declared.basis.Basis.{Basis}
-use Rattle.map_switches.specs.Switches.{HoldPart, IsOfSlots, brought, end_of, event_of, inode_from, last_generation, logged, new_places, payload_of, size_after, stripes_from}
+use Rattle.map_switches.specs.Switches.{HoldPart, IsOfSlots, brought, end_of, event_of, inode_from, kept_units, last_generation, logged, new_places, payload_of, released, repaired_among, size_after, stripes_from}
 
 -- the entries behind the first `at`
 abbrev pub entries_since : List (Note Noted) → ℕ → List FileEntry
@@ -41,7 +41,7 @@ module _ {S : Type 0} where
   -- why an entry behind the change's copy stands against it
   abbrev pub stale_by : FileView S → MapChange S → Option Stale
   stale_by f change =
-      cause_in (entries_since f.notes change.at) change.at (basis_of f change) change.old [] (new_places change)
+      cause_in (entries_since f.notes change.at) change.at (basis_of f change) change.old (kept_units change.fresh) (new_places change)
 
   -- if no entry stands against the change, and its new units stand at free places, its entry is legal
   abbrev pub IsLegalIfFresh : FileView S → View → MapChange S → Type 0
@@ -50,11 +50,15 @@ module _ {S : Type 0} where
       → IsEvent (now_of f view) (log_of f) (layout_of f) (payload_of change.why)
       (event_of change.why (layout_of f).size (logged (layout_of f) change))
 
+  -- the groups that the change replaces, with their slots
+  abbrev pub replaced_in : FileView S → MapChange S → List (GroupSlots S)
+  replaced_in f change = take (length change.old) (drop (first_of change.old (layout_of f).groups) f.groups)
+
   -- the file after the change, whose inode stands on these slots
   abbrev pub switched : By → View → MapChange S → List S → FileView S → FileView S
   switched by view change inode f =
       record (with_note f (noted by view (event_of change.why (layout_of f).size (logged (layout_of f) change)) (payload_of change.why))) {
-        groups = spliced f.groups (first_of change.old (layout_of f).groups) (length change.old) (stripes_from (brought change.fresh) (layout_of f).next);
+        groups = spliced f.groups (first_of change.old (layout_of f).groups) (length change.old) (stripes_from (brought (replaced_in f change) change.fresh) (layout_of f).next);
         inode = Some (record { group = (inode_from (layout_of f) change).group; slots = inode });
       }
 
@@ -81,27 +85,29 @@ module _ {S : Type 0} where
       inode_with (layout_of f).requested f.shape.unit (size_after change.why (layout_of f).size)
       (spliced (layout_of f).groups (first_of change.old (layout_of f).groups) (length change.old) (logged (layout_of f) change).new)
 
-  -- the change was made, and set free what it replaced
+  -- the change was made, and set free what it replaced but for the slots that it keeps
   pub record IsPut (by : By) (view : View) (change : MapChange S) (old new : FileView S) (done : Switched S) : Type 0 where
     pub file : new ≡ switched by view change change.inode.slots old
-    pub groups : done.groups ≡ take (length change.old) (drop (first_of change.old (layout_of old).groups) old.groups)
+    pub groups : done.groups ≡ released (replaced_in old change) change.fresh
     pub inode : Some done.inode ≡ old.inode
     pub at : done.at ≡ length new.notes
 
-  -- the change was made: its inode was written, and it set free what it replaced, the groups in map order and the inode
+  -- the change was made: its inode was written, and it set free what it replaced but for the slots that it keeps: the groups in map
+  -- order, and the inode
   pub record IsSwitched (place_of : S → RawPlace) (content : S → Option (List ℕ)) (len_of : S → ℕ) (by : By) (view : View) (change : MapChange S)
       (old new : FileView S) (done : Switched S) : Type 0 where
     pub slots : List S
     pub places : map place_of slots ≡ map place_of change.inode.slots
     pub written : AllByRecursion (Took content len_of (inode_bytes (new_inode_of old change))) slots
     pub file : new ≡ switched by view change slots old
-    pub groups : done.groups ≡ take (length change.old) (drop (first_of change.old (layout_of old).groups) old.groups)
+    pub groups : done.groups ≡ released (replaced_in old change) change.fresh
     pub inode : Some done.inode ≡ old.inode
     pub at : done.at ≡ length new.notes
 
-  -- what a change takes from memory before it changes the file: the logged groups and inode, and the inode's text
+  -- what a change takes from memory before it changes the file: the logged groups and inode, the group of a repair, and the inode's text
   pub record IsPrepared (f : FileView S) (change : MapChange S) (p : Prepared) : Type 0 where
     pub groups : p.groups.items ≡ (logged (layout_of f) change).new
+    pub repaired : list_of p.repaired ≡ repaired_among change.fresh (logged (layout_of f) change).new
     pub inode : p.inode ≡ (logged (layout_of f) change).inode
     pub text : p.text.items ≡ inode_bytes (new_inode_of f change)
     pub fits : length p.text.items ≤ 262144

@@ -8,7 +8,7 @@ ghost use Rattle.striped_groups.specs.StoredGroups.{Took};
 ghost use Rattle.file_core.specs.FileView.{IsFile, IsLater, layout_of};
 ghost use Rattle.domains.specs.Place.{IsPlace};
 ghost use Rattle.stale_changes.specs.declared.stale.Stale.{Stale};
-ghost use Rattle.map_switches.specs.Switches.{IsBack, IsOfSlots, IsRefusal, IsSlotFault, end_of, new_places};
+ghost use Rattle.map_switches.specs.Switches.{IsBack, IsOfSlots, IsRefusal, IsSlotFault, kept_units, new_places};
 ghost use Rattle.file_core.specs.FileSwitches.{HoldIfFresh, IsLegalIfFresh, IsPrepared, IsPut, IsReady, IsSwitched, new_inode_of, stale_by};
 
 use crate::state::FileState;
@@ -17,15 +17,16 @@ use domains::{By, Place};
 use flex_io::Slot;
 use lists::List;
 use map_switches::{
-    Exchanged, InodeHead, MapChange, Prepared, Why, brought, inode_unmarked, last_generation,
-    make_ready, none_marked, push_copies, push_group_places, put_groups, write_each,
+    Exchanged, InodeHead, MapChange, Prepared, Room, end_of, group_room, inode_unmarked,
+    last_generation, make_ready, none_marked, push_copies, push_fresh_places, push_kept,
+    put_groups, write_each,
 };
-use stale_changes::{Basis, PlaceMarks, Stale};
+use stale_changes::{Basis, KeptUnit, PlaceMarks, Stale};
 use std::alloc::{AllocError, Global};
 use striped_groups::Stripe;
 
 /// What a change of the map gives back: the number of its entry, the replaced groups in map order, and the replaced inode, each
-/// with its slots by position.
+/// with its slots by position, but for those that the change keeps.
 pub struct Switched<S> {
     pub at: u32,
     pub groups: List<Stripe<S>>,
@@ -34,8 +35,9 @@ pub struct Switched<S> {
 
 impl<S: Slot + Send + Drop> FileState<S> {
     /// Changes the map: the new groups take the place of the old ones, and the new inode, which is written to its slots, that of the old
-    /// one. It needs room for one entry (`FileState::reserve`). A refusal leaves the file as it was and hands the change back. A new
-    /// place that a unit of the file or another new one has is told as want of memory.
+    /// one. A group that is repaired keeps the slots of those of its units that stay. It needs room for one entry
+    /// (`FileState::reserve`). A refusal leaves the file as it was and hands the change back. A new place that a unit of the file or
+    /// another new one has is told as want of memory.
     pub fn switch(
         &mut self,
         alloc: Global,
@@ -64,7 +66,10 @@ impl<S: Slot + Send + Drop> FileState<S> {
         let Ok(places) = new_places(alloc, &change) else {
             return Err((Stale::NoMemory, change));
         };
-        if let Some(stale) = self.stale(&change, &places) {
+        let Ok(kept) = kept_by(alloc, &change) else {
+            return Err((Stale::NoMemory, change));
+        };
+        if let Some(stale) = self.stale(&change, &kept, &places) {
             return Err((stale, change));
         }
         if self.check_places(alloc, &places).is_err() {
@@ -77,7 +82,8 @@ impl<S: Slot + Send + Drop> FileState<S> {
     }
 
     /// Why an entry behind the change's copy stands against it: the first that does.
-    fn stale(&self, change: &MapChange<S>, places: &[Place]) -> Option<Stale>
+    fn stale(&self, change: &MapChange<S>, kept: &[KeptUnit], places: &[Place]) -> Option<Stale>
+        requires kept { kept.now ≡ kept_units change.now.fresh }
         requires places { places.now ≡ new_places change.now }
         ensures cause { result ≡ stale_by self.now change.now }
         ensures file { IsFile S.place_of S.content S.len_of self.now }
@@ -93,7 +99,7 @@ impl<S: Slot + Send + Drop> FileState<S> {
         let at = (change.at as usize).min(entries.len());
         basis.cause_in(
             change.old.as_slice(),
-            &[],
+            kept,
             places,
             change.at,
             &entries[at..],
@@ -186,10 +192,10 @@ impl<S: Slot + Send + Drop> FileState<S> {
         ensures back { IfErr result (λ refused. (refused.0 ≡ Stale.NoMemory) × (refused.1 ≡ change)) }
         ensures file { IsFile S.place_of S.content S.len_of self.new }
     {
-        if self.groups.reserve(brought(&change.fresh).len()).is_err() {
+        if self.groups.reserve(group_room(&change.fresh)).is_err() {
             return Err((Stale::NoMemory, change));
         }
-        let Ok(gone) = Vec::with_capacity(alloc, change.old.len()) else {
+        let Ok(room) = Room::new(alloc, &change) else {
             return Err((Stale::NoMemory, change));
         };
         let _most = self.head.requested.m();
@@ -202,12 +208,13 @@ impl<S: Slot + Send + Drop> FileState<S> {
             size,
             units,
         } = put_groups(
+            alloc,
             &mut self.groups,
             self.head.next,
             self.head.size,
             prepared,
             change,
-            gone,
+            room,
         );
         self.head.switch(next, size, units);
         self.log
@@ -229,9 +236,18 @@ fn new_places<S>(alloc: Global, change: &MapChange<S>) -> Result<Vec<Place>, All
     ensures places { IfOk result (λ places. AllByRecursion IsPlace places.items) }
 {
     let mut places = Vec::new(alloc);
-    push_group_places(brought(&change.fresh), &mut places)?;
+    push_fresh_places(&change.fresh, &mut places)?;
     push_copies(change.inode.group.places.as_slice(), &mut places)?;
     Ok(places)
+}
+
+/// The units that the change keeps.
+fn kept_by<S>(alloc: Global, change: &MapChange<S>) -> Result<Vec<KeptUnit>, AllocError>
+    ensures { IfOk result (λ kept. kept.items ≡ kept_units change.now.fresh) }
+{
+    let mut kept = Vec::new(alloc);
+    push_kept(&change.fresh, &mut kept)?;
+    Ok(kept)
 }
 
 /// Writes the bytes to the slots of the change's inode. It stops at the first that does not take them.
@@ -243,13 +259,4 @@ fn write_slots<S: Slot>(change: &mut MapChange<S>, bytes: &[u8]) -> Result<(), S
     ensures failed { IfErr result (λ why. IsSlotFault S.faults change.entry.now.inode.slots change.exit.now.inode.slots 0 why) }
 {
     write_each(&mut change.inode.slots, bytes, 0)
-}
-
-/// Where the bytes that are written end, as far as 64 bits can name it.
-fn end_of(why: &Why) -> u64
-    ensures { result ≡ end_of why.now }
-{
-    match why {
-        Why::Write { offset, bytes } => offset.saturating_add(bytes.len() as u64),
-    }
 }

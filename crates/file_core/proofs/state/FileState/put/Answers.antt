@@ -13,6 +13,7 @@ use Rattle.file_core.specs.Notes.{noted}
 use Rattle.striped_groups.specs.StoredGroups.{AllTell, list_of, stored_group}
 use Rattle.file_core.specs.FileSwitches.{IsPrepared, IsPut, IsReady, new_inode_of}
 use Rattle.file_core.proofs.ExchangedMaps.{gone_are}
+use Rattle.file_core.proofs.PreparedChanges.{inode_numbered, repaired_numbered}
 use Rattle.file_core.proofs.ExchangedFiles.{bounded_groups, done, file_put, head_put, view_put}
 use Rattle.file_core.proofs.state.FileState.put.Given.{Over}
 use Rattle.file_core.proofs.state.FileState.put.Goals as goal
@@ -40,7 +41,25 @@ put_groups-event-requires-clause-bounds g c =
     bounded_groups g.S.Slot.place_of g.S.Slot.content g.S.Slot.len_of (before g c) c.args.view.now c.args.change c.args.prepared c.self.inside.head c.self.invariant.0 ready
     (subst IsLevel c.self.invariant.1.requested c.m-most.ensures.level) (omega (arith, room, some)) c.self.invariant.1 c.reserve.new.self.items c.reserve.ensures.items
 
-module _ (g : Over) (c : goal.After-len-2 g) where
+pub put_groups-event-requires-clause-numbered : goal.put_groups-event-requires-clause-numbered
+put_groups-event-requires-clause-numbered g c =
+    let ready : _ = subst (λ (f : FileView g.row.S.Denot). IsReady g.S.Slot.place_of g.S.Slot.content g.S.Slot.len_of f c.args.view.now c.args.change) (sym c.self.view_is) c.requires.ready in
+    let some : 1 ≤ c.self.inside.log.spare = subst (λ (f : FileView g.row.S.Denot). 1 ≤ f.spare) (sym c.self.view_is) c.requires.spare in
+    let room = c.self.invariant.2 in
+    inode_numbered g.S.Slot.place_of g.S.Slot.content g.S.Slot.len_of (before g c) c.args.view.now c.args.change c.self.inside.head c.self.invariant.0 ready
+    (subst IsLevel c.self.invariant.1.requested c.m-most.ensures.level) (omega (arith, room, some)) c.self.invariant.1 c.reserve.new.self.items c.args.prepared c.reserve.ensures.items
+    (subst (λ (f : FileView g.row.S.Denot). IsPrepared f c.args.change c.args.prepared) (sym c.self.view_is) c.requires.prepared)
+
+pub put_groups-event-requires-clause-repaired : goal.put_groups-event-requires-clause-repaired
+put_groups-event-requires-clause-repaired g c =
+    let ready : _ = subst (λ (f : FileView g.row.S.Denot). IsReady g.S.Slot.place_of g.S.Slot.content g.S.Slot.len_of f c.args.view.now c.args.change) (sym c.self.view_is) c.requires.ready in
+    let some : 1 ≤ c.self.inside.log.spare = subst (λ (f : FileView g.row.S.Denot). 1 ≤ f.spare) (sym c.self.view_is) c.requires.spare in
+    let room = c.self.invariant.2 in
+    repaired_numbered g.S.Slot.place_of g.S.Slot.content g.S.Slot.len_of (before g c) c.args.view.now c.args.change c.self.inside.head c.self.invariant.0 ready
+    (subst IsLevel c.self.invariant.1.requested c.m-most.ensures.level) (omega (arith, room, some)) c.self.invariant.1 c.reserve.new.self.items c.args.prepared c.reserve.ensures.items
+    (subst (λ (f : FileView g.row.S.Denot). IsPrepared f c.args.change c.args.prepared) (sym c.self.view_is) c.requires.prepared)
+
+module _ (g : Over) (c : goal.After-len g) where
   abbrev old : FileView g.row.S.Denot
   old = record {
     file = c.self.inside.file;
@@ -106,7 +125,7 @@ invariant_of-self-2 g c =
 pub returns-clause-put : goal.returns-clause-put
 returns-clause-put g c =
     let new : FileView g.row.S.Denot = record (old g c) { notes = c.push.new.self.notes; groups = c.put_groups-event.new.groups.items; inode = c.replace.new.self; spare = c.push.new.self.spare } in
-    let back : Switched g.row.S.Denot = record { at = c.len-2.result; groups = c.put_groups-event.result.gone; inode = c.in-Some.inode } in
+    let back : Switched g.row.S.Denot = record { at = c.len.result; groups = c.put_groups-event.result.gone; inode = c.in-Some.inode } in
     subst (λ (f : FileView g.row.S.Denot). IsPut c.args.by c.args.view.now c.args.change f new back) c.self.view_is
     (record {
       file = view_put g.S.Slot.place_of g.S.Slot.content g.S.Slot.len_of (old g c) c.args.view.now c.args.change c.args.prepared c.self.inside.head c.self.invariant.0 (ready g c) (level g c) (below g c)
@@ -116,7 +135,7 @@ returns-clause-put g c =
           (done g.S.Slot.place_of g.S.Slot.content g.S.Slot.len_of (old g c) c.args.view.now c.args.change c.args.prepared c.self.inside.head c.self.invariant.0 (ready g c) (level g c) (below g c)
           c.self.invariant.1 c.reserve.new.self.items c.put_groups-event.new.groups.items c.put_groups-event.result c.reserve.ensures.items (prepared g c) c.put_groups-event.ensures c.args.by);
       inode = sym c.in-Some.is ∙ c.replace.ensures.value;
-      at = c.len-2.ensures;
+      at = c.len.ensures;
     })
 
 pub returns-clause-file : goal.returns-clause-file

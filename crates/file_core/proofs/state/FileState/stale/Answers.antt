@@ -18,8 +18,8 @@ returns-clause-cause g c =
     ∙ groups_of_file g.S.Slot.place_of g.S.Slot.content g.S.Slot.len_of inside.shape _ _ inside.groups.items _ kept.slots in
     subst (λ (f : FileView g.row.S.Denot). c.cause_in.result ≡ stale_by f c.args.change.now) c.self.view_is
     (c.cause_in.ensures
-    ∙ same_cause _ _ c.args.change.now.at _ _ _ _ _ _
+    ∙ same_cause _ _ c.args.change.now.at _ _ _ _ _ _ _ _
     (behind c.entries-entries.result.now c.args.change.now.at c.min-at.result c.min-at.ensures ∙ ap (λ (l : List FileEntry). drop c.args.change.now.at l) c.entries-entries.ensures)
     (basis_from c.unit.result inside.shape.unit c.args.change.now.units c.end_of.result _ c.last_generation.result _ c.args.change.now.level
     c.unit.ensures.value (c.last_generation.ensures ∙ ap (λ (gs : List Group). last_generation gs) groups) c.end_of.ensures)
-    c.as_slice.ensures c.requires.places)
+    c.as_slice.ensures c.requires.kept c.requires.places)

@@ -18,3 +18,7 @@ returns-then-is_err-clause-refused g c =
 pub returns-in_default-prepare-clause-refused : goal.returns-in_default-prepare-clause-refused
 returns-in_default-prepare-clause-refused g c =
     refused_early g.S.Slot.place_of g.S.Slot.faults (stale_by c.args.self.now c.args.change) c.args.change
+
+pub returns-in_default-kept_by-clause-refused : goal.returns-in_default-kept_by-clause-refused
+returns-in_default-kept_by-clause-refused g c =
+    refused_early g.S.Slot.place_of g.S.Slot.faults (stale_by c.args.self.now c.args.change) c.args.change
