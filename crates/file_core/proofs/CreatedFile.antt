@@ -1,5 +1,5 @@
 -- A file that is created, and one that is deleted.
-use Rattle.std.proofs.Common.{◌≡◌, ℕ, zero, suc, ◌<◌, ◌≤◌, false, List, [], ◌∷◌, length, map, get_or, Option, Some, None, Result, Ok, Err, IfOk, refl, sym, ap, subst, ◌∙◌, arith, append-nil, lit≤}
+use Rattle.std.proofs.Common.{◌≡◌, ℕ, zero, suc, ◌<◌, ◌≤◌, false, List, [], ◌∷◌, ◌++◌, length, map, get_or, Option, Some, None, Result, Ok, Err, IfOk, refl, sym, ap, subst, ◌∙◌, arith, append-nil, lit≤}
 use Rattle.std.specs.List.{AllByRecursion}
 use Rattle.std.proofs.lemmas.Bool.{false≢true}
 use Rattle.std.proofs.lemmas.List.{length-map}
@@ -14,7 +14,7 @@ use Rattle.domains.proofs.ShapeLemmas.{IsPlace-of}
 use Rattle.inode_codec.specs.Inode.{IsInode, inode_bytes}
 use Rattle.file_history.specs.World.{Moment}
 use Rattle.file_history.specs.Bytes.{bytes_after_event}
-use Rattle.file_history.specs.Layout.{Layout, layout_after_event}
+use Rattle.file_history.specs.Layout.{Layout, all_groups, group_list, layout_after_event}
 use Rattle.file_history.specs.Step.{AreDistinct, IsNewPlace}
 use Rattle.file_history.specs.Stored.{IsRooted}
 use Rattle.file_history.specs.declared.entry.FileEvent.TheVariants.{Created, Deleted}
@@ -87,6 +87,13 @@ pub absent_empty : (shape : Shape) (l : Layout) (bytes : List ℕ) (groups inode
 absent_empty shape l bytes groups inode kept rooted absent =
     let none = (rooted (none_there l.inode (sym kept.there ∙ absent))).0 in
     no_groups groups (sym (length-map groups (λ (g : StoredGroup). g.group)) ∙ ap (λ (gs : List Group). length gs) (kept.mapped ∙ none))
+
+-- an absent file has no group and no inode
+pub absent_all : (shape : Shape) (l : Layout) (bytes : List ℕ) (groups inode : List StoredGroup) → KeepsSlots shape l bytes groups inode → IsRooted l
+    → l.present ≡ false → all_groups l ≡ []
+absent_all shape l bytes groups inode kept rooted absent =
+    let none = none_there l.inode (sym kept.there ∙ absent) in
+    let empty = (rooted none).0 in λ i. empty i ++ group_list (none i)
 
 pub KeepsSlots-created : (shape : Shape) (declared : Level) (l : Layout) (old payload : List ℕ) (g : Group) (new : StoredGroup)
     → new.group ≡ g → new.places ≡ g.places → length g.places ≤ 255 → AreDistinct g.places → AllByRecursion (IsPlaceOf shape) g.places

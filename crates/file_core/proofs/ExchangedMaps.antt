@@ -37,7 +37,7 @@ module _ {S : Type 0} (place_of : S → RawPlace) (content : S → Option (List 
   change_is : (let made : Change = record { old = change.old; new = p.groups.items; inode = p.inode } in made) ≡ logged (layout_of f) change
   change_is = ap (λ (x : List Group × Group). let made : Change = record { old = change.old; new = x.0; inode = x.1 } in made) (λ i. (prepared.groups i, prepared.inode i))
 
-  event_is : r.event ≡ event_of change.why (layout_of f).size (logged (layout_of f) change)
+  pub event_is : r.event ≡ event_of change.why (layout_of f).size (logged (layout_of f) change)
   event_is = done.event ∙ ap (λ (c : Change). event_with change.why (size_after change.why (layout_of f).size) c) change_is
 
   groups_are : new

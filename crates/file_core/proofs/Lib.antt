@@ -7,6 +7,7 @@ pub mod PulledSlots
 pub mod DecodableGroups
 pub mod PulledBytes
 pub mod StoredPlacesLemmas
+mod LeftLemmas
 mod SwitchedFile
 mod SwitchedRuns
 mod ReadyChanges

@@ -14,6 +14,8 @@ use Rattle.file_history.specs.Stored.{inode_of}
 use Rattle.file_history.specs.declared.entry.NotedEntry.{NotedEntry}
 use Rattle.file_core.specs.declared.noted.Noted.{Noted}
 use Rattle.file_heads.specs.Heads.{is_there}
+use Rattle.file_heads.specs.LeftGenerations.{entry_at}
+use Rattle.file_core.specs.LeftEntries.{left_by}
 use Rattle.file_core.specs.Notes.{AreNotedSteps, last_epoch_of, told_of}
 use Rattle.striped_groups.specs.StoredGroups.{StoredGroup, StandsThere, HoldRun, SpellIn}
 
@@ -48,3 +50,9 @@ pub record KeepsFile (known : Type 0) (shape : Shape) (level : Level) (room : �
   -- an entry uses at most 257 generations
   pub numbers : (layout_after level (told_of notes)).next ≤ 257 * length notes
   pub slots : KeepsSlots shape (layout_after level (told_of notes)) (bytes_after (told_of notes)) groups inode
+
+-- by generation, the entries by which they left are those of the log, and each generation so far has its place among them
+pub record KeepsLeft (items : List ℕ) (level : Level) (log : List NotedEntry) : Type 0 where
+  pub entries : (generation : ℕ) → entry_at items generation ≡ left_by level log generation
+  pub long : (layout_after level log).next ≤ length items
+  pub root : AllByRecursion (λ (g : Group). g.generation < (layout_after level log).next) (group_list (layout_after level log).inode)

@@ -1,10 +1,11 @@
 pub mod Notes
 pub mod NoteLog
+pub mod Accounts
+pub mod LeftEntries
 pub mod FileInvariant
 pub mod FileView
 pub mod Looks
 pub mod Creation
-pub mod Accounts
 pub mod Examples
 pub mod StoredPlaces
 pub mod FileSwitches

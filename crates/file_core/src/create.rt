@@ -69,8 +69,7 @@ impl<S: Slot + Send + Drop> FileState<S> {
             Ok(groups) => groups,
             Err(AllocError) => return Err((AllocError, List::from_vec(slots))),
         };
-        self.take_inode(by, view, groups, slots);
-        Ok(())
+        self.take_inode(by, view, groups, slots)
     }
 }
 
@@ -105,20 +104,32 @@ impl<S: Slot + Send + Drop> FileState<S> {
         })
     }
 
-    /// Takes in the slots of a new inode, and notes it.
-    fn take_inode(&mut self, by: By, view: &View, groups: InodeGroups, slots: Vec<Held<S>>)
+    /// Takes in the slots of a new inode, and notes it. It takes memory before its first change alone.
+    #[tactic(auto, using(crate::proofs::LeftLemmas::left_with_room))]
+    fn take_inode(
+        &mut self,
+        by: By,
+        view: &View,
+        groups: InodeGroups,
+        slots: Vec<Held<S>>,
+    ) -> Result<(), (AllocError, List<Held<S>>)>
         requires spare { 1 ≤ self.old.spare }
         requires later { IsLater view.now self.old }
         requires legal { Creates (now_of self.old view.now) (layout_of self.old) groups.logged }
         requires twice { groups.kept ≡ groups.logged }
         requires stands { places_from S.place_of slots.items ≡ groups.logged.places }
         requires spelled { AllByRecursion (Took S.content S.len_of (inode_bytes (empty_inode self.old.level self.old.shape.unit))) slots.items }
-        ensures noted { self.new ≡ record (with_note self.old (noted by view.now (FileEvent.Created groups.logged) [])) {
+        ensures noted { OnOk result (self.new ≡ record (with_note self.old (noted by view.now (FileEvent.Created groups.logged) [])) {
           inode = Some (record { group = groups.logged; slots = slots.items });
-        } }
+        }) }
+        ensures kept { OnErr result (self.new ≡ self.old) }
+        ensures back { IfErr result (λ refused. refused.1 ≡ slots.items) }
         ensures file { IsFile S.place_of S.content S.len_of self.new }
     {
         let _requested = self.head.requested.m();
+        let Ok(()) = self.left.reserve(self.head.next + 1) else {
+            return Err((AllocError, List::from_vec(slots)));
+        };
         let InodeGroups { logged, kept } = groups;
         self.head.create(self.level, slots.len() as u32);
         let payload = self.log.no_bytes();
@@ -132,5 +143,6 @@ impl<S: Slot + Send + Drop> FileState<S> {
         );
         let none = self.inode.replace(Stripe { group: kept, slots });
         let None = none else { unreachable!() };
+        Ok(())
     }
 }

@@ -44,6 +44,8 @@ impl<S: Slot + Send + Drop> FileState<S> {
         self.head.delete(self.level);
         let none = Vec::new(*self.groups.allocator());
         let groups = mem::replace(&mut self.groups, none);
+        self.left
+            .take_away(&groups, &inode, self.log.len() as u32 + 1);
         let payload = self.log.no_bytes();
         self.log.push(self.turns, self.seat, by, view, FileEvent::Deleted, payload);
         Ok(DeletedSlots {
@@ -68,6 +70,7 @@ impl<S: Slot + Send + Drop> FileState<S> {
             seat: _,
             log,
             head: _,
+            left: _,
             groups,
             inode,
         } = self;

@@ -7,7 +7,8 @@ ghost use Rattle.file_history.specs.Layout.{all_groups};
 ghost use Rattle.file_history.specs.Live.{is_dead};
 ghost use Rattle.file_core.specs.Notes.{last_epoch_of};
 ghost use Rattle.file_core.specs.Looks.{IsLook};
-ghost use Rattle.file_core.specs.FileView.{layout_of};
+ghost use Rattle.file_core.specs.FileView.{layout_of, log_of};
+ghost use Rattle.file_core.specs.LeftEntries.{left_by};
 
 use crate::state::FileState;
 use domains::{DriveSet, Group, Level};
@@ -84,6 +85,14 @@ impl<S: Slot + Send + Drop> FileState<S> {
         }
         let stripe = self.groups.get(at)?;
         Some(stripe.group())
+    }
+
+    /// The entry by which the generation left the map, or ceased to be the inode's, numbered from 1. There is none exactly if no entry
+    /// took it away.
+    pub fn left_at(&self, generation: u32) -> Option<u32>
+        ensures { result ≡ left_by self.now.level (log_of self.now) generation }
+    {
+        self.left.at(generation)
     }
 
     /// Whether an entry says that the unit is dead.

@@ -7,7 +7,7 @@ ghost use Rattle.file_core.specs.FileView.{IsFile};
 use crate::note_log::NoteLog;
 use board::Grow;
 use domains::{Level, Shape};
-use file_heads::Head;
+use file_heads::{Head, LeftGenerations};
 use flex_io::Slot;
 use std::alloc::Global;
 use std::marker::Model;
@@ -23,6 +23,7 @@ pub struct FileState<S: Slot + Send + Drop> {
     pub(crate) seat: u8,
     pub(crate) log: NoteLog,
     pub(crate) head: Head,
+    pub(crate) left: LeftGenerations,
     pub(crate) groups: Vec<Stripe<S>>,
     pub(crate) inode: Option<Stripe<S>>,
 }
@@ -33,7 +34,7 @@ impl<S: Slot + Send + Drop> Model for FileState<S> {
     ghost use Rattle.file_core.specs.Notes.{told_of};
     ghost use Rattle.striped_groups.specs.StoredGroups.{AllTell, list_of, stored_group};
     ghost use Rattle.file_heads.specs.Heads.{IsHead};
-    ghost use Rattle.file_core.specs.FileInvariant.{KeepsFile};
+    ghost use Rattle.file_core.specs.FileInvariant.{KeepsFile, KeepsLeft};
     ghost use Rattle.file_core.specs.FileView.{FileView};
 
     ghost Value = { FileView S };
@@ -54,7 +55,8 @@ impl<S: Slot + Send + Drop> Model for FileState<S> {
     ghost invariant = { λ f. KeepsFile (AllTell S.content) f.shape f.level f.room f.log.notes
         (map (stored_group S.place_of S.content S.len_of) f.groups.items) (map (stored_group S.place_of S.content S.len_of) (list_of f.inode))
         × IsHead f.head (layout_after f.level (told_of f.log.notes))
-        × (length f.log.notes + f.log.spare ≤ f.room) };
+        × (length f.log.notes + f.log.spare ≤ f.room)
+        × KeepsLeft f.left.items f.level (told_of f.log.notes) };
 }
 
 impl<S: Slot + Send + Drop> FileState<S> {
@@ -75,6 +77,7 @@ impl<S: Slot + Send + Drop> FileState<S> {
             seat: 0,
             log: NoteLog::new(alloc),
             head: Head::new(alloc, level),
+            left: LeftGenerations::new(alloc),
             groups: Vec::new(alloc),
             inode: None,
         }

@@ -192,13 +192,16 @@ impl<S: Slot + Send + Drop> FileState<S> {
         ensures back { IfErr result (λ refused. (refused.0 ≡ Stale.NoMemory) × (refused.1 ≡ change)) }
         ensures file { IsFile S.place_of S.content S.len_of self.new }
     {
+        let _most = self.head.requested.m();
         if self.groups.reserve(group_room(&change.fresh)).is_err() {
             return Err((Stale::NoMemory, change));
         }
+        let Ok(()) = self.left.reserve(prepared.inode.generation + 1) else {
+            return Err((Stale::NoMemory, change));
+        };
         let Ok(room) = Room::new(alloc, &change) else {
             return Err((Stale::NoMemory, change));
         };
-        let _most = self.head.requested.m();
         let Exchanged {
             event,
             payload,
@@ -222,8 +225,10 @@ impl<S: Slot + Send + Drop> FileState<S> {
         let Some(inode) = self.inode.replace(inode) else {
             unreachable!()
         };
+        let at = self.log.len() as u32;
+        self.left.take_away(gone.as_slice(), &inode, at);
         Ok(Switched {
-            at: self.log.len() as u32,
+            at,
             groups: gone,
             inode,
         })

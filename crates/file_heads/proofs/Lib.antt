@@ -2,3 +2,4 @@ pub mod DriveSetUnion
 pub mod DeadUnitLookups
 pub mod PullCauses
 pub mod ClearedGroups
+pub mod LeftLookups

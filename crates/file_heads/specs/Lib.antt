@@ -1,5 +1,6 @@
 pub mod DeadUnits
 pub mod Heads
+pub mod LeftGenerations
 pub mod Parts
 pub mod PullRefusals
 pub mod ClearFiles

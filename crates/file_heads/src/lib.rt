@@ -4,6 +4,7 @@
 
 mod dead_units;
 mod head;
+mod left;
 mod live;
 mod losses;
 mod needs;
@@ -12,6 +13,7 @@ mod unclear;
 
 pub use dead_units::DeadUnits;
 pub use head::Head;
+pub use left::LeftGenerations;
 pub use live::Sight;
 pub use losses::refusal;
 pub use part::{Part, PullRefusal};

@@ -6,10 +6,11 @@ use Rattle.file_core.specs.declared.noted.Noted.{Noted}
 use Rattle.file_core.specs.Notes.{told_of, noted}
 use Rattle.file_core.specs.NoteLog.{NoteList}
 use Rattle.striped_groups.specs.StoredGroups.{AllTell, stored_group, list_of}
-use Rattle.file_core.specs.FileInvariant.{KeepsFile}
+use Rattle.file_core.specs.FileInvariant.{KeepsFile, KeepsLeft}
 use Rattle.file_heads.specs.Heads.{IsHead}
 use Rattle.file_core.specs.FileView.{FileView, IsLater, now_of, log_of, layout_of}
 use Rattle.file_core.proofs.FileGrowth.{KeepsFile-note, KeepsSlots-quiet, next-quiet, layout_after-note, epochs_up_to}
+use Rattle.file_core.proofs.LeftLemmas.{KeepsLeft-quiet}
 use Rattle.file_core.proofs.state.FileState.note.Given.{Over}
 use Rattle.file_core.proofs.state.FileState.note.Goals as goal
 
@@ -56,6 +57,8 @@ invariant_of-self g c =
       subst (IsHead c.hear.new.self) (sym (ap (λ (ns : List (Note Noted)). layout_after inside.level (told_of ns)) (notes g c) ∙ layout_after-note inside.level inside.log.notes (note g c)))
           (c.hear.ensures inside.level (layout_after inside.level (told_of inside.log.notes)) c.self.invariant.1),
       omega (arith, room, some, left, long),
+      subst (λ (ns : List (Note Noted)). KeepsLeft inside.left.items inside.level (told_of ns)) (sym (notes g c))
+          (KeepsLeft-quiet inside.level inside.log.notes (note g c) inside.left.items c.requires.quiet c.self.invariant.3),
     )
 
 pub returns-clause-file : goal.returns-clause-file

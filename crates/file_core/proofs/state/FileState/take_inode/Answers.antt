@@ -15,13 +15,14 @@ use Rattle.file_core.specs.declared.noted.Noted.{Noted}
 use Rattle.file_core.specs.Notes.{told_of, noted}
 use Rattle.file_core.specs.NoteLog.{NoteList}
 use Rattle.striped_groups.specs.StoredGroups.{AllTell, GroupSlots, StoredGroup, stored_group, list_of}
-use Rattle.file_core.specs.FileInvariant.{KeepsFile}
+use Rattle.file_core.specs.FileInvariant.{KeepsFile, KeepsLeft}
 use Rattle.file_heads.specs.Heads.{IsHead}
 use Rattle.file_core.specs.FileView.{FileView, IsLater, layout_of, now_of}
 use Rattle.striped_groups.specs.StoredGroups.{Took}
 use Rattle.file_core.specs.Creation.{empty_inode}
 use Rattle.file_core.proofs.FileGrowth.{KeepsFile-note, layout_after-note, epochs_up_to}
-use Rattle.file_core.proofs.CreatedFile.{KeepsSlots-created, absent_empty, all_hold, all_long, empty_inode-is, few_units, new_within}
+use Rattle.file_core.proofs.CreatedFile.{KeepsSlots-created, absent_all, absent_empty, all_hold, all_long, empty_inode-is, few_units, new_within}
+use Rattle.file_core.proofs.LeftLemmas.{KeepsLeft-created}
 use Rattle.file_core.proofs.state.FileState.take_inode.Given.{Over}
 use Rattle.file_core.proofs.state.FileState.take_inode.Goals as goal
 
@@ -70,8 +71,8 @@ keeps g c =
     (record { valid = empty_inode-is inside.level inside.shape kept.declared kept.cluster; held = all_hold g.S.Slot.content g.S.Slot.len_of _ c.args.slots.items spelled })
     (all_long g.S.Slot.content g.S.Slot.len_of _ c.args.slots.items spelled)))
 
-pub invariant_of-self : goal.invariant_of-self
-invariant_of-self g c =
+pub invariant_of-self-2 : goal.invariant_of-self-2
+invariant_of-self-2 g c =
     let inside = c.self.inside in
     let room = c.self.invariant.2 in
     let some = spare g c in
@@ -84,6 +85,10 @@ invariant_of-self g c =
       subst (IsHead c.create.new.self) (sym (ap (λ (ns : List (Note Noted)). layout_after inside.level (told_of ns)) (notes g c) ∙ layout_after-note inside.level inside.log.notes (note g c)))
           (c.create.ensures (layout_after inside.level (told_of inside.log.notes)) c.args.groups.logged c.self.invariant.1 legal.number units),
       omega (arith, room, some, left, long),
+      subst (λ (ns : List (Note Noted)). KeepsLeft c.reserve.new.self.items inside.level (told_of ns)) (sym (notes g c))
+          (KeepsLeft-created inside.level inside.log.notes (note g c) inside.left.items c.reserve.new.self.items c.args.groups.logged refl c.self.invariant.3 c.reserve.ensures.same
+          (absent_all inside.shape (layout_after inside.level (told_of inside.log.notes)) _ _ _ c.self.invariant.0.slots (layout_rooted inside.level (told_of inside.log.notes)) legal.absent)
+          (let known = c.in-Ok.ensures.ok in let next = c.self.invariant.1.next in let number = legal.number in omega (arith, known, next, number))),
     )
 
 pub returns-clause-file : goal.returns-clause-file
