@@ -1,2 +1,3 @@
 pub mod FilesReturned
 pub mod NewFiles
+pub mod StandingSlots

@@ -3,6 +3,7 @@
 
 mod all_files;
 mod file_end;
+pub mod laws;
 mod open_file;
 
 pub use all_files::{close_files, open_files};
