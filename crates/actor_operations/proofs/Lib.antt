@@ -1,0 +1,4 @@
+pub mod TurnEntries
+pub mod BoardKept
+pub mod PathEntries
+pub mod BoardOrders

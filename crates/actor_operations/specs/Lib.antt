@@ -1,0 +1,3 @@
+pub mod Stops
+pub mod Entries
+pub mod Operations
