@@ -1,0 +1,7 @@
+mod StandingSlots
+mod HeldBytes
+mod LegalWrites
+mod FreshChanges
+mod PulledWrite
+mod LevelSizes
+mod PlannedRuns

@@ -1,0 +1,4 @@
+pub mod StandingRuns
+pub mod ReadyWrites
+pub mod PulledWrites
+pub mod PlacedWrites
