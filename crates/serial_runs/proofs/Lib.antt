@@ -1,0 +1,4 @@
+pub mod OrderedOperations
+pub mod ScriptOperations
+pub mod SerialScripts
+pub mod SerialGrowth
