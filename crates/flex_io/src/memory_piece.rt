@@ -64,6 +64,8 @@ impl Slot for MemoryPiece {
 
     ghost faults = { λ p. p.failed };
 
+    ghost alike = { λ _ _ told. told };
+
     fn place(&self) -> RawPlace {
         self.inner.place()
     }

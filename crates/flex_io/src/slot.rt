@@ -1,6 +1,6 @@
 //! One unit's room on a drive.
 
-ghost use Rattle.std.specs.Prelude.{◌≡◌, ℕ, List, Option, ◌≤◌, length, IsOk, OnOk, OnErr};
+ghost use Rattle.std.specs.Prelude.{◌≡◌, ℕ, List, Option, ◌≤◌, length, IsOk, IsSome, OnOk, OnErr};
 ghost use Rattle.std.specs.Result.{IsErrOf};
 ghost use Rattle.flex_io.specs.declared.raw_place.RawPlace.{RawPlace};
 ghost use Rattle.flex_io.specs.Faults.{HasRisen, HasCause};
@@ -27,6 +27,9 @@ pub trait Slot {
 
     /// How often the slot has failed. The number never falls.
     ghost faults: { Self → ℕ };
+
+    // Either all slots of a type tell their content, or none does.
+    ghost alike: { (one : Self) → (other : Self) → IsSome (content one) → IsSome (content other) };
 
     /// Where the slot is.
     fn place(&self) -> RawPlace

@@ -63,6 +63,8 @@ impl Slot for SurePiece {
 
     ghost faults = { λ _. 0 };
 
+    ghost alike = { λ _ _ told. told };
+
     fn place(&self) -> RawPlace {
         self.at
     }

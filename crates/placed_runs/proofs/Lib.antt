@@ -1,3 +1,4 @@
 pub mod GivenBack
 pub mod PlacedSlots
 pub mod RunSteps
+mod RetiredUnit

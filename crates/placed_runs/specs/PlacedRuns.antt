@@ -1,5 +1,5 @@
 -- The groups of a run and an inode on new slots.
-use Rattle.std.specs.Prelude.{◌≡◌, ℕ, ◌+◌, ◌*◌, true, ◌⊎◌, List, [], ◌∷◌, Option}
+use Rattle.std.specs.Prelude.{◌≡◌, ℕ, ◌+◌, ◌*◌, ◌<◌, true, ◌⊎◌, List, [], ◌∷◌, length, Option, slice_index_or}
 use Rattle.std.specs.List.{flat_map}
 use Rattle.board.specs.declared.board_view.View.{View}
 use Rattle.domains.specs.Drive.{AreApart, Drive, is_in}
@@ -8,6 +8,8 @@ use Rattle.domains.specs.Shape.{Shape, is_of}
 use Rattle.flex_io.specs.declared.raw_place.RawPlace.{RawPlace}
 use Rattle.held_slots.specs.Slots.{count_on, places_from}
 use Rattle.fabric.specs.Accounts.{Holds, Stays}
+use Rattle.fabric.specs.HandTurns.{AtYard}
+use Rattle.fabric.specs.YardTurns.{Retires}
 use Rattle.fabric.specs.declared.hand.Hand.{Hand}
 use Rattle.placement_order.specs.Order.{DrawRequest}
 use Rattle.placement.specs.Draws.{Draws, FindsNoRoom}
@@ -15,6 +17,7 @@ use Rattle.placement.specs.PlacedGroups.{FindsNoPlace, Places}
 use Rattle.placement.specs.declared.refusal.NoRoom.{NoRoom}
 use Rattle.slot_search.specs.HandSeats.{AreOfCluster, drives_of_all}
 use Rattle.striped_groups.specs.StoredGroups.{GroupSlots}
+use Rattle.turn_cell.specs.Seats.{seat_view}
 use Rattle.write_rule.specs.NewBytes.{padded_slice}
 use Rattle.write_units.specs.GroupUnits.{AreUnitsFor}
 use Rattle.placed_runs.specs.declared.terms.RunTerms.{RunTerms}
@@ -23,6 +26,11 @@ use Rattle.placed_runs.specs.Terms.{IsAskedFor}
 -- the slots of the groups, group by group
 abbrev pub slots_of_groups : {S : Type 0} → List (GroupSlots S) → List S
 slots_of_groups groups = flat_map (λ (g : GroupSlots _). g.slots) groups
+
+-- there is a slot at this position, and it has failed
+pub record HasFailed {S : Type 0} (faults : S → ℕ) (position : ℕ) (slots : List S) : Type 0 where
+  pub within : position < length slots
+  pub faulty : (default : S) → 0 < faults (slice_index_or slots position default)
 
 module _ {S : Type 0} (place_of : S → RawPlace) where
   -- a new group of n data and m correction units stands on its slots, and no file holds it yet
@@ -38,6 +46,12 @@ module _ {S : Type 0} (place_of : S → RawPlace) where
   -- the hand holds less by these slots
   pub record HoldsLess (shape : Shape) (slots : List S) (old new : Hand S) : Type 0 where
     pub each : (d : Drive) (many : ℕ) → is_of shape d ≡ true → Holds shape d (many + count_on place_of d slots) old → Holds shape d many new
+
+  -- the hand retired the slot at this position, and its seat at the yard made no further turn
+  pub record RetiresOne (shape : Shape) (position : ℕ) (slots : List S) (old new : Hand S) : Type 0 where
+    pub between : Hand S
+    pub retired : (default : S) → AtYard shape (Retires place_of (slice_index_or slots position default)) old between
+    pub yard : seat_view new.yard ≡ seat_view between.yard
 
   -- the group's slots may go back
   abbrev pub MayGroupGoBack : Shape → View → GroupSlots S → Type 0

@@ -7,6 +7,6 @@ mod returned;
 mod run;
 mod terms;
 
-pub use returned::{give_group_back, give_groups_back};
+pub use returned::{give_group_back, give_groups_back, give_run_back};
 pub use run::{PlacedRun, place_run};
 pub use terms::RunTerms;

@@ -251,6 +251,11 @@ module _ {S : Type 0} (place_of : S → RawPlace) (content : S → Option (List 
   abbrev change : MapChange S
   change = write_change plan.old offset payload at units level groups inode
 
+  -- the bytes are those of the run in the file after the write
+  abbrev AreTheFiles : Type 0
+  AreTheFiles = padded_slice bytes 0 (plan.run.new_units * x.shape.unit)
+      ≡ padded_slice (overwrite (bytes_of x) offset payload) (plan.run.start * x.shape.unit) (plan.run.new_units * x.shape.unit)
+
   width_narrow : plan.width ≤ t.level.w
   width_narrow =
       let narrow = width_within l.requested (room_of l.requested x.shape (is_usable now l)) plan.width ready.plan_is.may.wide in
@@ -316,8 +321,9 @@ module _ {S : Type 0} (place_of : S → RawPlace) (content : S → Option (List 
     inode = sym (ap (λ (g : Group). g.places) ready.inode_stands.group);
   }
 
-  held_part : HoldPart place_of content len_of l x.shape.unit (bytes_of x) change
-  held_part =
+  -- if the new groups hold the bytes that the run has after the write, they hold their part of the file
+  held_part : AreTheFiles → HoldPart place_of content len_of l x.shape.unit (bytes_of x) change
+  held_part written =
       let u = ready.terms.unit in
       let run = ready.plan_is.run in
       let sum : data_units (groups_of groups) ≡ plan.run.new_units =
@@ -332,12 +338,12 @@ module _ {S : Type 0} (place_of : S → RawPlace) (content : S → Option (List 
       (padded_slice (overwrite (bytes_of x) offset payload) (k * x.shape.unit) (data_units (groups_of groups) * x.shape.unit)) x.shape.unit) (sym start)
       (subst (λ (k : ℕ). HoldRun (map (stored_group place_of content len_of) groups)
       (padded_slice (overwrite (bytes_of x) offset payload) (plan.run.start * x.shape.unit) (k * x.shape.unit)) x.shape.unit) (sym sum)
-      (subst (λ (bs : List ℕ). HoldRun (map (stored_group place_of content len_of) groups) bs x.shape.unit) ready.written
+      (subst (λ (bs : List ℕ). HoldRun (map (stored_group place_of content len_of) groups) bs x.shape.unit) written
       (subst (λ (k : ℕ). HoldRun (map (stored_group place_of content len_of) groups) (padded_slice bytes 0 (k * x.shape.unit)) x.shape.unit) sum
       (subst (λ (k : ℕ). HoldRun (map (stored_group place_of content len_of) groups) (padded_slice bytes 0 (data_units (groups_of groups) * k)) k) u held))))
     where
       taken_length : (gs : List Group) (k : ℕ) → k ≤ length gs → length (take k gs) ≡ k
       taken_length gs k within = let taken = length-take k gs in omega (arith, taken, within)
 
-  pub hold_if_fresh : HoldIfFresh place_of content len_of x change
-  hold_if_fresh fresh = held_part
+  pub hold_if_fresh : AreTheFiles → HoldIfFresh place_of content len_of x change
+  hold_if_fresh written fresh = held_part written

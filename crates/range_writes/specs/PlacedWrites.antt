@@ -1,11 +1,11 @@
--- The new groups of a write, placed with the bytes that they have after it.
+-- The new groups of a write, placed with the bytes that they have after it, if slots tell what is pulled.
 use Rattle.std.specs.Prelude.{◌≡◌, ℕ, ◌*◌, List, Option}
 use Rattle.flex_io.specs.declared.raw_place.RawPlace.{RawPlace}
 use Rattle.fabric.specs.declared.hand.Hand.{Hand}
 use Rattle.file_history.specs.Bytes.{overwrite}
 use Rattle.file_core.specs.FileView.{FileView, bytes_of}
 use Rattle.placement.specs.declared.refusal.NoRoom.{NoRoom}
-use Rattle.striped_groups.specs.StoredGroups.{GroupSlots}
+use Rattle.striped_groups.specs.StoredGroups.{AllTell, GroupSlots}
 use Rattle.write_rule.specs.NewBytes.{padded_slice}
 use Rattle.write_plans.specs.declared.plan.WritePlan.{WritePlan}
 use Rattle.placed_runs.specs.PlacedRuns.{FindsNoRun, PlacesRun}
@@ -23,11 +23,11 @@ module _ {S : Type 0} (place_of : S → RawPlace) (content : S → Option (List 
   pub record PlacesWrite (x : FileView S) (t : RunTerms) (spin : ℕ) (plan : WritePlan) (offset : ℕ) (payload : List ℕ) (groups : List (GroupSlots S)) (inode : GroupSlots S)
       (old new : Hand S) : Type 0 where
     pub bytes : List ℕ
-    pub written : AreWrittenBytes x plan offset payload bytes
+    pub written : AllTell content → AreWrittenBytes x plan offset payload bytes
     pub placed : PlacesRun place_of content len_of faults t x.shape spin bytes 0 plan.chunks groups inode old new
 
   -- one of them finds no room
   pub record FindsNoWrite (x : FileView S) (t : RunTerms) (spin : ℕ) (plan : WritePlan) (offset : ℕ) (payload : List ℕ) (told : NoRoom) (old new : Hand S) : Type 0 where
     pub bytes : List ℕ
-    pub written : AreWrittenBytes x plan offset payload bytes
+    pub written : AllTell content → AreWrittenBytes x plan offset payload bytes
     pub none : FindsNoRun place_of content len_of faults t x.shape spin bytes 0 plan.chunks told old new

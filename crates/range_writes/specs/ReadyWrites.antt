@@ -12,7 +12,7 @@ use Rattle.file_core.specs.FileView.{FileView, bytes_of, layout_of, now_of}
 use Rattle.map_switches.specs.declared.change.MapChange.{MapChange}
 use Rattle.map_switches.specs.declared.change.Why.TheVariants.{Write}
 use Rattle.map_switches.specs.declared.change.Fresh.TheVariants.{Groups}
-use Rattle.striped_groups.specs.StoredGroups.{GroupSlots}
+use Rattle.striped_groups.specs.StoredGroups.{AllTell, GroupSlots}
 use Rattle.write_rule.specs.NewBytes.{padded_slice}
 use Rattle.write_plans.specs.Plans.{IsPlan}
 use Rattle.write_plans.specs.declared.plan.WritePlan.{WritePlan}
@@ -39,7 +39,7 @@ module _ {S : Type 0} where
   }
 
 module _ {S : Type 0} (place_of : S → RawPlace) (content : S → Option (List ℕ)) (len_of : S → ℕ) where
-  -- the new groups hold these bytes, and they are those of the run in the file after the write
+  -- the new groups hold these bytes, and if all slots tell they are those of the run in the file after the write
   pub record IsReadyWrite (x : FileView S) (view : View) (t : RunTerms) (plan : WritePlan) (offset : ℕ) (payload bytes : List ℕ) (groups : List (GroupSlots S))
       (inode : GroupSlots S) : Type 0 where
     pub plan_is : IsPlan (now_of x view) (layout_of x) offset (length payload) plan
@@ -47,5 +47,5 @@ module _ {S : Type 0} (place_of : S → RawPlace) (content : S → Option (List 
     pub terms : AreTermsOf x view t
     pub groups_hold : HoldBytes place_of content len_of t x.shape bytes 0 plan.chunks groups
     pub inode_stands : StandsOnSlots place_of t x.shape 1 inode
-    pub written : padded_slice bytes 0 (plan.run.new_units * x.shape.unit)
+    pub written : AllTell content → padded_slice bytes 0 (plan.run.new_units * x.shape.unit)
         ≡ padded_slice (overwrite (bytes_of x) offset payload) (plan.run.start * x.shape.unit) (plan.run.new_units * x.shape.unit)

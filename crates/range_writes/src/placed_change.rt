@@ -1,6 +1,8 @@
 //! The change that a write makes of the map.
 
-ghost use Rattle.std.specs.Prelude.{◌≡◌, ℕ, ◌+◌, ◌-◌, ◌/◌, ◌^◌, ◌≤◌, List, None, length, IfErr, IfOk, OnErr};
+ghost use Rattle.std.specs.Prelude.{◌≡◌, ℕ, ◌+◌, ◌-◌, ◌/◌, ◌^◌, ◌≤◌, All, List, None, length, IsSome, IfErr, IfOk, OnErr};
+ghost use Rattle.domains.specs.Level.{IsLevel};
+ghost use Rattle.galois.specs.Field.{IsByte};
 ghost use Rattle.map_switches.specs.Switches.{IsRefusal};
 ghost use Rattle.file_core.specs.FileSwitches.{IsSwitched};
 ghost use Rattle.file_core.specs.FileView.{IsFile, IsLater};
@@ -37,6 +39,7 @@ pub fn switch_placed<S: Slot + Send + Drop>(
     requires later { IsLater view.now file.old }
     requires entries { look.now.at ≡ length file.old.notes }
     requires unit { 1 ≤ terms.now.unit }
+    requires level { IsLevel terms.now.level }
     requires size { look.now.size + terms.now.unit ≤ 2 ^ 62 }
     requires old { old ≡ plan.now.old }
     requires ready { (bytes : List ℕ) × IsReadyWrite S.place_of S.content S.len_of file.old view.now terms.now plan.now offset payload bytes placed.groups placed.inode }
@@ -49,6 +52,8 @@ pub fn switch_placed<S: Slot + Send + Drop>(
         refused.0 refused.1) }
     ensures file { IsFile S.place_of S.content S.len_of file.new }
 {
+    are_bytes(payload.as_slice());
+    slots_are_alike::<S>();
     let unit = u64::from(terms.unit);
     let PlacedRun { groups, inode } = placed;
     let change = MapChange {
@@ -65,3 +70,13 @@ pub fn switch_placed<S: Slot + Send + Drop>(
     };
     file.switch(alloc, by, view, change)
 }
+
+// What is written is bytes. The type says so, and calling this tells the proof.
+fn are_bytes(payload: &[u8])
+    ensures { All IsByte payload.now }
+{}
+
+// Either all slots tell what they hold or none does, by the law of their type.
+fn slots_are_alike<S: Slot>()
+    ensures { (one : S) (other : S) → IsSome (S.content one) → IsSome (S.content other) }
+{}

@@ -10,6 +10,7 @@ ghost use Rattle.pulled_groups.specs.PullAnswers.{CanDecode, ShowsGroup};
 ghost use Rattle.file_heads.specs.Parts.{needs};
 ghost use Rattle.placement.specs.Draws.{IfNoRoom, IsSameDesk};
 ghost use Rattle.slot_search.specs.Searches.{KeepsHand};
+ghost use Rattle.striped_groups.specs.StoredGroups.{AllTell};
 ghost use Rattle.write_plans.specs.Plans.{IsPlan};
 ghost use Rattle.write_units.specs.GroupUnits.{pulled_spans};
 ghost use Rattle.write_units.specs.Spans.{spans_with};
@@ -56,7 +57,7 @@ pub fn place_write<S: Slot + Send + Drop, G: Gate, R: Wait>(
     requires spans { pulled_spans pulled.now.groups ≡ spans_with (layout_of file.now).groups 0
         (needs file.now.shape.unit (layout_of file.now).size (write offset (length payload.now) plan.now.width)) }
     requires decodes { AllByRecursion (CanDecode file.now.shape.unit) pulled.now.groups }
-    requires shown { AllByRecursion (ShowsGroup file.now.shape.unit (bytes_of file.now)) pulled.now.groups }
+    requires shown { AllTell S.content → AllByRecursion (ShowsGroup file.now.shape.unit (bytes_of file.now)) pulled.now.groups }
 
     ensures keeps { KeepsHand (fabric_view desk.old.fabric.now) desk.old.hand.now desk.new.hand.now }
     ensures same { IsSameDesk desk.old desk.new }

@@ -6,3 +6,4 @@ mod CoveredRuns
 mod RunBytes
 mod OldGroups
 pub mod PulledSpans
+pub mod DataCodewords

@@ -1,4 +1,4 @@
-use Rattle.std.proofs.Common.{rules, subst, arith}
+use Rattle.std.proofs.Common.{rules, subst, ◌∙◌, arith}
 use Rattle.std.specs.List.{AllByRecursion}
 use Rattle.std.proofs.lemmas.Bool.{both_ways}
 use Rattle.std.proofs.lemmas.List.{nil_from_length}
@@ -10,6 +10,7 @@ use Rattle.placed_runs.proofs.returned.give_groups_back.Goals as goal
 pub loop-group-preserved-then-all : goal.loop-group-preserved-then-all
 loop-group-preserved-then-all g c = record {
   keeps = search rules;
+  yard = c.give_group_back-went.ensures.yard ∙ c.loop-group.invariant.yard;
   back = (with_last (MayGroupGoBack g.S.Slot.place_of (fabric_view c.args.fabric.now).shape c.args.view.now) c.pop.new.self.items c.in-Some.group
       (subst (AllByRecursion (MayGroupGoBack g.S.Slot.place_of (fabric_view c.args.fabric.now).shape c.args.view.now)) c.in-Some.ensures.items c.loop-group.invariant.back)).0;
   less = λ went. less_by_last g.S.Slot.place_of (fabric_view c.args.fabric.now).shape c.args.groups c.loop-group.groups.items c.pop.new.self.items c.in-Some.group
@@ -19,6 +20,7 @@ loop-group-preserved-then-all g c = record {
 pub loop-group-preserved : goal.loop-group-preserved
 loop-group-preserved g c = record {
   keeps = search rules;
+  yard = c.give_group_back-went.ensures.yard ∙ c.loop-group.invariant.yard;
   back = (with_last (MayGroupGoBack g.S.Slot.place_of (fabric_view c.args.fabric.now).shape c.args.view.now) c.pop.new.self.items c.in-Some.group
       (subst (AllByRecursion (MayGroupGoBack g.S.Slot.place_of (fabric_view c.args.fabric.now).shape c.args.view.now)) c.in-Some.ensures.items c.loop-group.invariant.back)).0;
   less = λ all. absurd (both_ways c.loop-group.all c.if-all.false all);

@@ -17,6 +17,7 @@ use Rattle.write_units.specs.declared.old_data.OldGroup.{OldGroup}
 use Rattle.range_writes.specs.PlacedWrites.{AreWrittenBytes}
 use Rattle.range_writes.proofs.PlannedRuns.{bytes_written, covers_run, few_chunks, holds_range, run_small, sizes}
 use Rattle.range_writes.proofs.placed_write.place_write.Given.{Over}
+use Rattle.striped_groups.specs.StoredGroups.{AllTell}
 use Rattle.range_writes.proofs.placed_write.place_write.Goals as goal
 
 pub bytes_around-bytes-requires-clause-few : goal.bytes_around-bytes-requires-clause-few
@@ -61,13 +62,13 @@ place_run-requires-clause-spins g c κs within =
     let spin = c.requires.spin in
     omega (arith, few, same, spin)
 
-module _ (g : Over) (c : goal.After-drop-old g) where
+module _ (g : Over) (c : goal.After-drop-old g) (tell : AllTell g.S.Slot.content) where
   shown : AllByRecursion (IsOldGroup (bytes_of c.args.file.now)) c.deref.result.now
   shown =
       subst (AllByRecursion (IsOldGroup (bytes_of c.args.file.now))) (sym c.deref.ensures.value)
       (c.in-Ok.ensures.shown (bytes_of c.args.file.now)
       (subst (AllByRecursion (ShowsGroup c.args.terms.now.unit (bytes_of c.args.file.now))) (sym c.as_slice.ensures)
-      (subst (λ (u : ℕ). AllByRecursion (ShowsGroup u (bytes_of c.args.file.now)) c.args.pulled.now.groups) (sym c.requires.terms.unit) c.requires.shown)))
+      (subst (λ (u : ℕ). AllByRecursion (ShowsGroup u (bytes_of c.args.file.now)) c.args.pulled.now.groups) (sym c.requires.terms.unit) (c.requires.shown tell))))
 
   written : AreWrittenBytes c.args.file.now c.args.plan.now c.args.offset c.args.payload.now (new_bytes_of c.bytes_around-bytes.result)
   written =
@@ -85,7 +86,7 @@ returns-clause-placed g c =
     IfOk-weaker c.place_run.result _ _
     (λ r placed. record {
       bytes = new_bytes_of c.bytes_around-bytes.result;
-      written = written g c;
+      written = λ tell. written g c tell;
       placed = subst (λ (shape : Shape). PlacesRun g.S.Slot.place_of g.S.Slot.content g.S.Slot.len_of g.S.Slot.faults c.args.terms.now shape c.args.spin (new_bytes_of c.bytes_around-bytes.result) 0 c.args.plan.now.chunks r.groups r.inode
           c.args.desk.now.hand.now c.place_run.new.desk.hand.now) c.requires.shape
           (subst (λ (ns : List ℕ). PlacesRun g.S.Slot.place_of g.S.Slot.content g.S.Slot.len_of g.S.Slot.faults c.args.terms.now (fabric_view c.args.desk.now.fabric.now).shape c.args.spin (new_bytes_of c.bytes_around-bytes.result) 0 ns r.groups r.inode
@@ -98,7 +99,7 @@ returns-clause-no_room g c =
     no_room_in c.place_run.result _ _
     (λ told none. record {
       bytes = new_bytes_of c.bytes_around-bytes.result;
-      written = written g c;
+      written = λ tell. written g c tell;
       none = subst (λ (shape : Shape). FindsNoRun g.S.Slot.place_of g.S.Slot.content g.S.Slot.len_of g.S.Slot.faults c.args.terms.now shape c.args.spin (new_bytes_of c.bytes_around-bytes.result) 0 c.args.plan.now.chunks told
           c.args.desk.now.hand.now c.place_run.new.desk.hand.now) c.requires.shape
           (subst (λ (ns : List ℕ). FindsNoRun g.S.Slot.place_of g.S.Slot.content g.S.Slot.len_of g.S.Slot.faults c.args.terms.now (fabric_view c.args.desk.now.fabric.now).shape c.args.spin (new_bytes_of c.bytes_around-bytes.result) 0 ns told
