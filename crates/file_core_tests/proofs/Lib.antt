@@ -1,1 +1,3 @@
 pub mod ExampleFile
+pub mod PlacedInode
+mod BarsThatStay

@@ -18,14 +18,14 @@ use std::alloc::{AllocError, Global};
 use std::test::Fail;
 
 /// Two nodes with a drive each, of four slots of 8 bytes.
-fn cluster() -> Shape
+pub(crate) fn cluster() -> Shape
     ensures { result ≡ small }
 {
     Shape::new(2, 1, 4, 8)
 }
 
 /// The view of a board without entries.
-fn all_up() -> View
+pub(crate) fn all_up() -> View
     ensures { SeesAll result }
 {
     View {
@@ -36,7 +36,10 @@ fn all_up() -> View
 }
 
 /// A slot on each of the two drives, on which the inode of the new file is written.
-fn two_slots(alloc: Global, file: &FileState<SurePiece>) -> Result<List<Held<SurePiece>>, Fault>
+pub(crate) fn two_slots(
+    alloc: Global,
+    file: &FileState<SurePiece>,
+) -> Result<List<Held<SurePiece>>, Fault>
     ensures places { IfOk result (λ slots. map (λ (s : Piece). s.place) slots ≡ first ∷ second ∷ []) }
     ensures hold { IfOk result (λ slots. AllByRecursion (Took (λ (s : Piece). Some s.bytes) (λ (s : Piece). length s.bytes) (inode_bytes (empty_inode file.now.level file.now.shape.unit))) slots) }
 {
@@ -78,7 +81,7 @@ fn create_and_delete<S: Slot + Send + Drop>(
 }
 
 /// Drops the slots of a group, and answers how many bytes each held, from the last.
-fn lengths(alloc: Global, stripe: Stripe<SurePiece>) -> Result<Vec<u32>, AllocError> {
+pub(crate) fn lengths(alloc: Global, stripe: Stripe<SurePiece>) -> Result<Vec<u32>, AllocError> {
     let mut slots = stripe.into_slots().into_vec();
     let mut lengths = Vec::new(alloc);
     let mut kept = Ok(());
@@ -103,7 +106,7 @@ fn spend_groups(groups: List<Stripe<SurePiece>>) -> usize {
 }
 
 /// How many entries a file has at its end, how many groups, and whether it is there.
-fn end(file: FileState<SurePiece>) -> (usize, usize, bool) {
+pub(crate) fn end(file: FileState<SurePiece>) -> (usize, usize, bool) {
     let FileParts { log, groups, inode } = file.close();
     let count = spend_groups(groups);
     match inode {
