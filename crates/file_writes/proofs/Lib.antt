@@ -1,0 +1,3 @@
+pub mod WriteRoom
+pub mod WriteTryLemmas
+pub mod WriteAccounts

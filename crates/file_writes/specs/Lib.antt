@@ -1,0 +1,3 @@
+pub mod WriteTerms
+pub mod WriteRefusals
+pub mod WriteTries
