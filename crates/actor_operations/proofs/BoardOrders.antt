@@ -27,6 +27,8 @@ module _ {S : Type 0} (f : FabricView) (order : Order) (by : By) (old new : Hand
         effect = effect;
         notes = ap (λ (hand : Hand S). (board_of hand).notes) at.only ∙ ap (λ (s : SeatView History). s.last.notes) turn.now ∙ ap (λ (h : History). h.notes) turn.did.noted
             ∙ ap (λ (h : History). h.notes ++ record { turn = turn.found.turns; seat = number_of old; entry = record { by = by; order = order; effect = effect } } ∷ []) found;
+        room = ap (λ (hand : Hand S). (board_of hand).room) at.only ∙ ap (λ (s : SeatView History). s.last.room) turn.now ∙ ap (λ (h : History). h.room) turn.did.noted
+            ∙ ap (λ (h : History). h.room) found;
         legal = subst (λ (h : History). IsBoardStep h.shape (log_of h) (record { by = by; order = order; effect = effect })) found turn.did.legal;
         held = held;
       }
@@ -37,6 +39,8 @@ module _ {S : Type 0} (f : FabricView) (order : Order) (by : By) (old new : Hand
         full = subst (λ (h : History). h.room < length h.notes + 1) found turn.did.1;
         notes = ap (λ (hand : Hand S). (board_of hand).notes) at.only ∙ ap (λ (s : SeatView History). s.last.notes) turn.now ∙ ap (λ (h : History). h.notes) turn.did.0
             ∙ ap (λ (h : History). h.notes) found;
+        room = ap (λ (hand : Hand S). (board_of hand).room) at.only ∙ ap (λ (s : SeatView History). s.last.room) turn.now ∙ ap (λ (h : History). h.room) turn.did.0
+            ∙ ap (λ (h : History). h.room) found;
         held = held;
       }
   order_tells (Err NoMemory) at = tt

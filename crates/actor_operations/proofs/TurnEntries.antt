@@ -26,6 +26,10 @@ module _ {S : Type 0} (f : FabricView) (least : ℕ) (view : View) (old looked :
   pub board_looked : (board_of looked).notes ≡ (board_of old).notes
   board_looked = ap (λ (hand : Hand S). (board_of hand).notes) sees.only ∙ sees.sees.lone one
 
+  -- nor changes its room
+  pub room_looked : (board_of looked).room ≡ (board_of old).room
+  room_looked = ap (λ (hand : Hand S). (board_of hand).room) sees.only ∙ ap (λ (p : Shape × ℕ). p.1) sees.sees.follows.fixed
+
   -- its view is one of all entries
   whole : view.epoch ≡ length (board_of old).notes
   whole = sees.sees.epoch ∙ ap length (sees.sees.lone one)
@@ -67,6 +71,7 @@ module _ {S : Type 0} (f : FabricView) (what : FileView S → FileView S → Typ
       is = entry_of f least view old looked one sees action by event answers brings;
     };
     board = ap (λ (s : SeatView History). s.last.notes) board ∙ board_looked f least view old looked one sees;
+    room = ap (λ (s : SeatView History). s.last.room) board ∙ room_looked f least view old looked one sees;
     account = account;
   }
 

@@ -45,6 +45,7 @@ module _ {S : Type 0} where
   pub record DoesAction (f : FabricView) (action : FileAction) (by : By) (seat : ℕ) (x y : FileView S) (old new : Hand S) : Type 0 where
     pub entry : NotesEntry action by (board_of old) seat x y
     pub board : (board_of new).notes ≡ (board_of old).notes
+    pub room : (board_of new).room ≡ (board_of old).room
     pub account : KeepsAccount f.shape seat x y old new
 
   -- the log has no room for what the action may note, and nothing is changed

@@ -59,6 +59,7 @@ module _ {S : Type 0} where
     pub effect : Effect
     pub notes : (board_of new).notes
         ≡ (board_of old).notes ++ record { turn = turn; seat = number_of old; entry = record { by = by; order = order; effect = effect } } ∷ []
+    pub room : (board_of new).room ≡ (board_of old).room
     pub legal : IsBoardStep (board_of old).shape (log_of (board_of old)) (record { by = by; order = order; effect = effect })
     pub held : Stays f.shape old new
 
@@ -66,6 +67,7 @@ module _ {S : Type 0} where
   pub record FindsFullBoard (f : FabricView) (old new : Hand S) : Type 0 where
     pub full : (board_of old).room < length (board_of old).notes + 1
     pub notes : (board_of new).notes ≡ (board_of old).notes
+    pub room : (board_of new).room ≡ (board_of old).room
     pub held : Stays f.shape old new
 
   -- what an order leaves of the board and of the hand. Where memory runs out nothing is told

@@ -97,6 +97,8 @@ impl Slot for FailingPiece {
 
     ghost faults = { λ p. p.faults };
 
+    ghost alike = { λ _ _ told. told };
+
     fn place(&self) -> RawPlace {
         self.inner.place()
     }

@@ -1,0 +1,11 @@
+pub mod FileUnits
+pub mod PlayedActions
+pub mod PlayedOrders
+pub mod PlayedSteps
+pub mod ScriptPlaces
+pub mod DriveUnits
+pub mod NewRuns
+pub mod EndedSlots
+pub mod EndedLogs
+pub mod PlayOutcomes
+pub mod LoneHands

@@ -1,0 +1,3 @@
+pub mod PlayedRuns
+pub mod RunEnds
+pub mod Outcomes
