@@ -106,7 +106,7 @@ module _ (shape : Shape) (usable : DriveSet) (now : Moment) (l : Layout) (cluste
   on_cluster : (d : Drive) → is_of shape d ≡ true → has usable d ≡ is_usable now l d
   on_cluster d of = usable_is.each d (IsDrive-of shape d cluster of)
 
-  room_is : (level : Level) → l.requested ≡ level → room_of level shape (has usable) ≡ room_at now l
+  pub room_is : (level : Level) → l.requested ≡ level → room_of level shape (has usable) ≡ room_at now l
   room_is level same =
       room-agree shape.nodes level shape (has usable) (is_usable now l) (omega arith) on_cluster
       ∙ ap (λ (r : Level). room_of r shape (is_usable now l)) (sym same) ∙ ap (λ (c : Shape). room_of l.requested c (is_usable now l)) (sym usable_is.cluster)

@@ -49,7 +49,7 @@ impl FileFacts<'_> {
     }
 
     /// The first group that an operation on a file that is there needs and that has too few live units.
-    pub(crate) fn first_short(&self, asked: &Asked) -> Option<Lost>
+    pub fn first_short(&self, asked: &Asked) -> Option<Lost>
         requires sound { AreSound self.now }
         requires asked { IsAsked asked.now }
         requires present { self.now.present ≡ true }

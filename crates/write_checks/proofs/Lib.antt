@@ -1,0 +1,3 @@
+mod RunBounds
+mod WidthsFound
+mod PlanLemmas

@@ -1,0 +1,2 @@
+pub mod MapFacts
+pub mod Plans
